@@ -1,0 +1,80 @@
+-- The bench's circuits, as records. Rows are numbered in the order named, and the first named is the first child.
+use Prim.Native.Nat.{ℕ, zero, suc, _-_}
+use mathlib.Core.Bool.{false}
+use mathlib.Core.List.{List, [], _∷_, _++_}
+use lib.ListN.{length, replicate}
+use lib.IntN.{ℤ, pos, negsuc}
+use lib.Ieee.{Float, fin, binary64, ofInt}
+use Rattle.circuit.specs.Record.{rowLimit, columnLimit}
+use Rattle.circuit.specs.declared.Element.{Element}
+use Rattle.circuit.specs.declared.Element.the-variants.{Resistor, Capacitor, Inductor, Input, Steady}
+use Rattle.circuit.specs.declared.Join.{Join}
+use Rattle.circuit.specs.declared.Join.the-variants.{Series, Parallel}
+use Rattle.circuit.specs.declared.Part.{Part}
+use Rattle.circuit.specs.declared.Part.the-variants.{Blank, Leaf, Adaptor}
+use Rattle.circuit.specs.declared.Row.{Row}
+use Rattle.circuit.specs.declared.Column.{Column}
+use Rattle.circuit.specs.declared.CurveKind.{CurveKind}
+use Rattle.circuit.specs.declared.CurveKind.the-variants.{Unset, Single, Pair}
+use Rattle.circuit.specs.declared.Record.{Record}
+
+-- ---- parts and columns
+
+abbrev pub ohms : ℕ → Float
+ohms n = ofInt binary64 (pos n)
+
+abbrev pub input : Float → Part
+input r = Leaf (Input r)
+
+abbrev pub resistor : Float → Part
+resistor r = Leaf (Resistor r)
+
+abbrev pub inductor : Float → Part
+inductor l = Leaf (Inductor l)
+
+abbrev pub joins : Join → ℕ → ℕ → Part
+joins k a b = Adaptor (record { join = k; first = a; second = b })
+
+abbrev pub column : ℤ → ℤ → Column
+column x y = record { x = x; y = y }
+
+-- ---- a record of parts and columns, blank after them
+
+abbrev rowsOf : List Part → List Row
+rowsOf [] = []
+rowsOf (p ∷ ps) = record { part = p } ∷ rowsOf ps
+
+abbrev pub circuit : List Part → ℕ → CurveKind → List Column → Float → Record
+circuit ps tap kind cs q = record {
+  rate = 48000;
+  count = length ps;
+  tap = tap;
+  rows = rowsOf ps ++ replicate (rowLimit - length ps) (record { part = Blank });
+  kind = kind;
+  width = length cs;
+  columns = cs ++ replicate (columnLimit - length cs) (column (pos 0) (pos 0));
+  resistance = q;
+}
+
+-- ---- the bench's curve and circuits
+
+abbrev pub curveK : List Column
+curveK = column (pos 0) (pos 0) ∷ column (pos 1000) (pos 1000) ∷ column (pos 2000) (pos 0) ∷ []
+
+-- input 1000 Ω and resistor 3000 Ω, joined
+abbrev pub divider : Join → ℕ → Float → Record
+divider k tap q = circuit (input (ohms 1000) ∷ resistor (ohms 3000) ∷ joins k 0 1 ∷ []) tap Pair curveK q
+
+abbrev pub case1 : Record
+case1 = divider Parallel 1 (ohms 750)
+
+abbrev pub case6 : ℕ → Record
+case6 tap = divider Series tap (ohms 4000)
+
+-- 0.0078125 H is 1/128; 187.5 Ω is 375/2
+abbrev pub case8 : Record
+case8 =
+    circuit (input (ohms 250) ∷ inductor (fin false 1 (negsuc 6)) ∷ joins Parallel 0 1 ∷ []) 1 Pair curveK (fin false 375 (negsuc 0))
+
+abbrev pub withColumns : CurveKind → List Column → Record
+withColumns kind cs = circuit (input (ohms 1000) ∷ resistor (ohms 3000) ∷ joins Parallel 0 1 ∷ []) 1 kind cs (ohms 750)

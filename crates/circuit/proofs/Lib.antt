@@ -1,0 +1,2 @@
+pub mod Circuits
+pub mod Bench

@@ -1,0 +1,11 @@
+pub mod Fraction
+pub mod Integers
+pub mod Order
+pub mod Ring
+pub mod Combine
+pub mod Certificate
+pub mod Quotients
+pub mod Mirror
+pub mod Fractions
+pub mod Signed
+pub mod Nearness

@@ -1,0 +1,118 @@
+-- Quotients of an integer by a natural number above zero: rounded down (`shrZ z m`) and rounded toward zero
+-- (`quotZ z (pos m)`). `Rounds r z m` is what both have in common, and all that a bound on rounding errors needs to know.
+use mathlib.Core.Path.{_≡_, refl, sym, ap, _∙_}
+use Prim.Native.Nat.{ℕ, zero, suc, _+_, _*_, _/_, _<_, _≤_}
+use native.Mathlib.Omega.{arith}
+use native.Mathlib.Nat.{div-add-mod', mod-lt, mul-div-cancel, zero-div, le-of-mul-le-mul-right}
+use lib.IntN.{ℤ, pos, negsuc, _+ℤ_, _*ℤ_, _-ℤ_, negℤ, natAbs, negℤ-negℤ}
+use lib.Signed.{_≤ℤ_, _<ℤ_, shrZ, quotZ, ≤ℤ-refl}
+use Rattle.whole.specs.Integers.{P, N, at, is-neg, _⊞_, _⊟_, _⊠_}
+use Rattle.whole.specs.Order.{zarith, Abs, abs-parts, natAbs-neg, lt-cancel}
+
+-- the whole number r is less than one away from z / m
+pub record Rounds (r z : ℤ) (m : ℕ) : Type 0 where
+  pub low : (r *ℤ pos m) <ℤ (z +ℤ pos m)
+  pub high : z <ℤ (r *ℤ pos m +ℤ pos m)
+
+pub rounds-abs : {r z : ℤ} {m : ℕ} → Rounds r z m → Abs (r *ℤ pos m -ℤ z) m
+rounds-abs {r} {z} {m} h =
+    let y = r *ℤ pos m in
+    let low : y <ℤ (z +ℤ pos m) = h .low in
+    let high : z <ℤ (y +ℤ pos m) = h .high in
+    omega (zarith, at y ⊟ at z, at y ⊞ at (pos m), at z ⊞ at (pos m))
+
+-- ---- rounded down
+
+pub floor-low : (z : ℤ) (m : ℕ) → zero < m → (shrZ z m *ℤ pos m) ≤ℤ z
+floor-low (pos a) m m0 = omega (zarith, at (pos (a / m)) ⊠ at (pos m), div-add-mod' a m)
+floor-low (negsuc a) m m0 = omega (zarith, at (negsuc (a / m)) ⊠ at (pos m), div-add-mod' a m, mod-lt a m0)
+
+pub floor-high : (z : ℤ) (m : ℕ) → zero < m → z <ℤ (shrZ z m *ℤ pos m +ℤ pos m)
+floor-high (pos a) m m0 = omega (zarith, at (pos (a / m)) ⊠ at (pos m) ⊞ at (pos m), div-add-mod' a m, mod-lt a m0)
+floor-high (negsuc a) m m0 = omega (zarith, at (negsuc (a / m)) ⊠ at (pos m) ⊞ at (pos m), div-add-mod' a m)
+
+pub floor-rounds : (z : ℤ) (m : ℕ) → zero < m → Rounds (shrZ z m) z m
+floor-rounds z m m0 =
+    let y = shrZ z m *ℤ pos m in
+    let l : y ≤ℤ z = floor-low z m m0 in
+    record { low = omega (zarith, at z ⊞ at (pos m)); high = floor-high z m m0 }
+
+-- the floor is the greatest whole number that is not above z / m
+pub floor-greatest : (q z : ℤ) (m : ℕ) → zero < m → (q *ℤ pos m) ≤ℤ z → q ≤ℤ shrZ z m
+floor-greatest q z m m0 h =
+    let f = shrZ z m in
+    let below : (q *ℤ pos m) <ℤ ((f +ℤ pos 1) *ℤ pos m) =
+    omega (zarith, floor-high z m m0, at f ⊠ at (pos m) ⊞ at (pos m), (at f ⊞ at (pos 1)) ⊠ at (pos m)) in
+    let less : q <ℤ (f +ℤ pos 1) = lt-cancel m below in
+    omega (zarith, at f ⊞ at (pos 1))
+
+pub floor-least : (q z : ℤ) (m : ℕ) → zero < m → z <ℤ (q *ℤ pos m +ℤ pos m) → shrZ z m ≤ℤ q
+floor-least q z m m0 h =
+    let f = shrZ z m in
+    let below : (f *ℤ pos m) <ℤ ((q +ℤ pos 1) *ℤ pos m) =
+    omega (zarith, floor-low z m m0, at q ⊠ at (pos m) ⊞ at (pos m), (at q ⊞ at (pos 1)) ⊠ at (pos m)) in
+    let less : f <ℤ (q +ℤ pos 1) = lt-cancel m below in
+    omega (zarith, at q ⊞ at (pos 1))
+
+pub floor-unique : (q z : ℤ) (m : ℕ) → zero < m → (q *ℤ pos m) ≤ℤ z → z <ℤ (q *ℤ pos m +ℤ pos m) → q ≡ shrZ z m
+floor-unique q z m m0 l u = omega (zarith, floor-greatest q z m m0 l, floor-least q z m m0 u)
+
+pub floor-mono : {x y : ℤ} (m : ℕ) → zero < m → x ≤ℤ y → shrZ x m ≤ℤ shrZ y m
+floor-mono {x} {y} m m0 h =
+    let q = shrZ x m *ℤ pos m in
+    let l : q ≤ℤ x = floor-low x m m0 in
+    floor-greatest (shrZ x m) y m m0 (omega zarith)
+
+pub floor-exact : (q : ℤ) (m : ℕ) → zero < m → shrZ (q *ℤ pos m) m ≡ q
+floor-exact q m m0 =
+    let z = q *ℤ pos m in
+    sym (floor-unique q z m m0 (≤ℤ-refl z) (omega (zarith, at z ⊞ at (pos m))))
+
+-- ---- rounded toward zero
+
+-- the quotient of the opposite is the opposite
+pub trunc-odd : (z : ℤ) (m : ℕ) → quotZ (negℤ z) (pos m) ≡ negℤ (quotZ z (pos m))
+trunc-odd (pos zero) m = ap pos (zero-div m) ∙ sym (ap (λ (n : ℕ). negℤ (pos n)) (zero-div m))
+trunc-odd (pos (suc a)) m = refl
+trunc-odd (negsuc a) m = sym (negℤ-negℤ (pos (suc a / m)))
+
+-- from zero up it is the floor, and with `trunc-odd` that says all of it
+pub trunc-floor : {z : ℤ} (m : ℕ) → pos 0 ≤ℤ z → quotZ z (pos m) ≡ shrZ z m
+trunc-floor {z = pos a} m h = refl
+trunc-floor {z = negsuc a} m h = absurd (h .le)
+
+-- the two sides of it: |q|·m ≤ |z| < |q|·m + m
+pub trunc-low : (z : ℤ) (m : ℕ) → natAbs (quotZ z (pos m)) * m ≤ natAbs z
+trunc-low (pos a) m = omega (arith, div-add-mod' a m)
+trunc-low (negsuc a) m = rw natAbs-neg (omega (arith, div-add-mod' (suc a) m))
+
+pub trunc-high : (z : ℤ) (m : ℕ) → zero < m → natAbs z < natAbs (quotZ z (pos m)) * m + m
+trunc-high (pos a) m m0 = omega (arith, div-add-mod' a m, mod-lt a m0)
+trunc-high (negsuc a) m m0 = rw natAbs-neg (omega (arith, div-add-mod' (suc a) m, mod-lt (suc a) m0))
+
+pub rounds-neg : {r z : ℤ} {m : ℕ} → Rounds r z m → Rounds (negℤ r) (negℤ z) m
+rounds-neg {r} {z} {m} h =
+    record {
+      low = omega (zarith, h .high, at r ⊠ at (pos m) ⊞ at (pos m), is-neg (at r) ⊠ at (pos m), is-neg (at z) ⊞ at (pos m));
+      high = omega (zarith, h .low, at z ⊞ at (pos m), at r ⊠ at (pos m), is-neg (at r) ⊠ at (pos m) ⊞ at (pos m), is-neg (at z));
+    }
+
+pub trunc-rounds : (z : ℤ) (m : ℕ) → zero < m → Rounds (quotZ z (pos m)) z m
+trunc-rounds (pos a) m m0 = floor-rounds (pos a) m m0
+trunc-rounds (negsuc a) m m0 = rounds-neg (floor-rounds (pos (suc a)) m m0)
+
+pub trunc-mono : {x y : ℤ} (m : ℕ) → zero < m → x ≤ℤ y → quotZ x (pos m) ≤ℤ quotZ y (pos m)
+trunc-mono {x = pos a} {y = pos b} m m0 h = floor-mono m m0 h
+trunc-mono {x = pos a} {y = negsuc b} m m0 h = absurd (h .le)
+trunc-mono {x = negsuc a} {y = pos b} m m0 h = omega (zarith, is-neg (at (pos (suc a / m))))
+trunc-mono {x = negsuc a} {y = negsuc b} m m0 h =
+    let k : pos (suc b) ≤ℤ pos (suc a) = omega zarith in
+    omega (zarith, floor-mono m m0 k, is-neg (at (pos (suc a / m))), is-neg (at (pos (suc b / m))))
+
+pub trunc-exact : (q : ℤ) (m : ℕ) → zero < m → quotZ (q *ℤ pos m) (pos m) ≡ q
+trunc-exact (pos a) m m0 = ap pos (mul-div-cancel a m0)
+trunc-exact (negsuc a) m m0 = trunc-odd (pos (suc a * m)) m ∙ ap (λ (n : ℕ). negℤ (pos n)) (mul-div-cancel (suc a) m0)
+
+-- a bound on z bounds its quotient
+pub trunc-abs : {z : ℤ} {e : ℕ} (m : ℕ) → zero < m → Abs z (e * m) → Abs (quotZ z (pos m)) e
+trunc-abs {z} m m0 h = record { bound = le-of-mul-le-mul-right (omega (arith, h, trunc-low z m)) m0 }

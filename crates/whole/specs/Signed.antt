@@ -1,0 +1,50 @@
+-- What signed code asks: that a result fits its width (`SFits`), and that bits read back as the number they were written for.
+-- The rules are over any width. `signed` is for `search`; `zfits` is `zarith` with the ranges of the signed widths, for `omega`.
+use mathlib.Core.Path.{_≡_}
+use Prim.Native.Nat.{ℕ, zero, suc, _+_, _*_, _^_, _<_, _≤_, min, max}
+use native.Mathlib.Omega.{arith}
+use native.Mathlib.Nat.{mul-le-mul, lt-of-lt-of-le}
+use lib.Pow.{pow-add, pow-mono}
+use lib.IntN.{ℤ, pos, negsuc, _*ℤ_, natAbs}
+use lib.Signed.{mag, shrZ, quotZ, mag-shr}
+use mir.Syntax.{Width, w32, w64}
+use mir.Val.{SFits, Fits, bits, hbits, toZ}
+use mir.ValLaws.{toZ-pos, sfits-le, fits-sub}
+use Rattle.whole.specs.Integers.{P, N}
+use Rattle.whole.specs.Order.{zarith, Abs, natAbs-mul}
+
+pub fits-abs : {w : Width} (z : ℤ) → natAbs z < 2 ^ hbits w → SFits w z
+fits-abs (pos n) h = record { sfits = h }
+fits-abs (negsuc n) h = record { sfits = omega arith }
+
+-- a product of numbers of k and of m bits
+pub scaled-fits : {w : Width} (k m g : ℕ) (t : ℤ) → g < 2 ^ k → natAbs t < 2 ^ m → k + m ≤ hbits w → SFits w (pos g *ℤ t)
+scaled-fits {w} k m g t h l s =
+    let e : natAbs (pos g *ℤ t) < 2 ^ (k + m) = omega (arith, natAbs-mul (pos g) t, mul-le-mul h l, pow-add 2 k m) in
+    fits-abs (pos g *ℤ t) (lt-of-lt-of-le e (pow-mono s))
+
+-- a quotient fits where its dividend does
+pub shr-fits : {w : Width} {z : ℤ} (m : ℕ) → SFits w z → SFits w (shrZ z m)
+shr-fits {z = z} m h = sfits-le {z = z} (mag-shr z m) h
+
+-- an unsigned number of fewer bits is read back as itself
+pub toZ-narrow : {v : Width} (w : Width) (n : ℕ) → Fits v n → bits v ≤ hbits w → toZ w n ≡ pos n
+toZ-narrow w n h l = toZ-pos w n (lt-of-lt-of-le (h .fits) (pow-mono l))
+
+-- as a rewrite rule it has to name its widths: a u32 cast to an i64
+pub toZ-u32 : (n : ℕ) → Fits w32 n → toZ w64 n ≡ pos n
+toZ-u32 n h = toZ-narrow w64 n h (omega arith)
+
+pub ruleset signed = (toZ-u32, shr-fits, fits-sub)
+
+-- ---- for `omega`
+
+pub sfits-in : {w : Width} {z : ℤ} → SFits w z → max (suc (P z)) (N z) ≤ 2 ^ hbits w
+sfits-in {z = pos n} h = omega arith
+sfits-in {z = negsuc n} h = omega arith
+
+pub sfits-out : {w : Width} {z : ℤ} → max (suc (P z)) (N z) ≤ 2 ^ hbits w + min (P z) (N z) → SFits w z
+sfits-out {z = pos n} h = record { sfits = omega arith }
+sfits-out {z = negsuc n} h = record { sfits = omega arith }
+
+pub ruleset zfits = (zarith, sfits-in, sfits-out)
