@@ -8,14 +8,14 @@ use native.Mathlib.Nat.{mul-le-mul, mul-le-mul-right, mul-pos, le-of-mul-le-mul-
 use lib.Pow.{pow-pos}
 use lib.IntN.{ℤ, pos, negsuc, _+ℤ_, _*ℤ_, _-ℤ_, negℤ, natAbs}
 use lib.Signed.{_≤ℤ_}
-use Rattle.whole.specs.Integers.{P, N, at, _⊟_}
-use Rattle.whole.specs.Order.{zarith, Abs, natAbs-mul, abs-add, abs-neg, abs-mul, abs-scale, abs-as}
+use Rattle.whole.specs.Integers.{P, N, at, is-neg, _⊟_, _⊠_}
+use Rattle.whole.specs.Order.{zarith, Abs, abs-parts, natAbs-neg, natAbs-mul, abs-add, abs-neg, abs-mul, abs-scale, abs-as}
 use Rattle.whole.specs.Ring.{Exp, var, con, _⊕_, _⊗_, _⊝_, ⊖}
 use Rattle.whole.specs.Combine.{multiple}
 use Rattle.whole.specs.Mirror.{Quot, parts, fracE, overE, wholeE, _⊕F_, ⊖F, _⊝F_, timesE, by, by-facts}
 use Rattle.whole.specs.Quotients.{Rounds, rounds-abs}
 use Rattle.whole.specs.Fractions.{negF-+F, negF--F}
-use Rattle.whole.specs.Fraction.{Fraction, over, whole, _+F_, negF, _-F_, times, _≈_}
+use Rattle.whole.specs.Fraction.{Fraction, over, whole, _+F_, negF, _-F_, times, _≈_, _≤F_}
 
 -- ---- |p| ≤ E
 
@@ -25,10 +25,13 @@ pub record Small (E : ℕ) (p : Fraction) : Type 0 where
 pub small-le : {E F : ℕ} {p : Fraction} → E ≤ F → Small E p → Small F p
 small-le {p = p} l h = record { small = abs-as (h .small) refl (mul-le-mul-right (p .den) l) }
 
+-- the cross products of equal numbers, by size
+size-as : {p q : Fraction} → p ≈ q → natAbs (p .num) * q .den ≡ natAbs (q .num) * p .den
+size-as {p} {q} e = omega (arith, natAbs-mul (p .num) (pos (q .den)), natAbs-mul (q .num) (pos (p .den)), ap natAbs (e .same))
+
 pub small-as : {E : ℕ} {p q : Fraction} → p ≈ q → Small E p → Small E q
 small-as {E} {p} {q} e h =
-    let k : natAbs (q .num) * p .den ≤ E * q .den * p .den =
-    omega (arith, natAbs-mul (p .num) (pos (q .den)), natAbs-mul (q .num) (pos (p .den)), ap natAbs (e .same), mul-le-mul-right (q .den) (h .small .bound)) in
+    let k : natAbs (q .num) * p .den ≤ E * q .den * p .den = omega (arith, size-as e, mul-le-mul-right (q .den) (h .small .bound)) in
     record { small = record { bound = le-of-mul-le-mul-right k (p .den-pos) } }
 
 pub small-add : {E F : ℕ} {p q : Fraction} → Small E p → Small F q → Small (E + F) (p +F q)
@@ -45,6 +48,26 @@ small-times c k k0 a h = record { small = abs-as (abs-mul a (h .small)) refl (om
 -- |p| is at most |q|
 pub record NoFurther (p q : Fraction) : Type 0 where
   pub no-further : natAbs (p .num) * q .den ≤ natAbs (q .num) * p .den
+
+-- |p| ≤ |q| where p and its opposite are at most q
+pub no-further-between : {p q : Fraction} → p ≤F q → negF p ≤F q → NoFurther p q
+no-further-between {p} {q} h k =
+    let n = p .num in
+    let x = n *ℤ pos (q .den) in
+    let y = q .num *ℤ pos (p .den) in
+    let l : x ≤ℤ y = h .le in
+    let g : (negℤ n *ℤ pos (q .den)) ≤ℤ y = k .le in
+    let e : natAbs x ≤ natAbs y = omega (zarith, at n ⊠ at (pos (q .den)), is-neg (at n) ⊠ at (pos (q .den)), abs-parts x, abs-parts y) in
+    record { no-further = omega (arith, e, natAbs-mul n (pos (q .den)), natAbs-mul (q .num) (pos (p .den))) }
+
+pub no-further-neg : {p q : Fraction} → NoFurther p q → NoFurther (negF p) (negF q)
+no-further-neg {p} {q} h = record { no-further = rw (natAbs-neg (p .num), natAbs-neg (q .num)) (h .no-further) }
+
+pub no-further-as : {p p′ q q′ : Fraction} → p ≈ p′ → q ≈ q′ → NoFurther p q → NoFurther p′ q′
+no-further-as {p} {p′} {q} {q′} e f h =
+    let l : natAbs (p′ .num) * q′ .den * (p .den * q .den) ≤ natAbs (q′ .num) * p′ .den * (p .den * q .den) =
+          omega (arith, ap (λ (t : ℕ). t * (q .den * q′ .den)) (size-as e), ap (λ (t : ℕ). t * (p .den * p′ .den)) (size-as f), mul-le-mul-right (p′ .den * q′ .den) (h .no-further)) in
+    record { no-further = le-of-mul-le-mul-right l (mul-pos (p .den-pos) (q .den-pos)) }
 
 pub small-by : {E : ℕ} {p q : Fraction} → NoFurther p q → Small E q → Small E p
 small-by {E} {p} {q} k h =

@@ -21,6 +21,47 @@ rounds-abs {r} {z} {m} h =
     let high : z <ℤ (y +ℤ pos m) = h .high in
     omega (zarith, at y ⊟ at z, at y ⊞ at (pos m), at z ⊞ at (pos m))
 
+pub rounds-neg : {r z : ℤ} {m : ℕ} → Rounds r z m → Rounds (negℤ r) (negℤ z) m
+rounds-neg {r} {z} {m} h =
+    record {
+      low = omega (zarith, h .high, at r ⊠ at (pos m) ⊞ at (pos m), is-neg (at r) ⊠ at (pos m), is-neg (at z) ⊞ at (pos m));
+      high = omega (zarith, h .low, at z ⊞ at (pos m), at r ⊠ at (pos m), is-neg (at r) ⊠ at (pos m) ⊞ at (pos m), is-neg (at z));
+    }
+
+-- a whole number added before the quotient, or after it
+pub rounds-add : {r z : ℤ} {m : ℕ} (a : ℤ) → Rounds r z m → Rounds (a +ℤ r) (a *ℤ pos m +ℤ z) m
+rounds-add {r} {z} {m} a h =
+    let sum = (at a ⊞ at r) ⊠ at (pos m) in
+    let moved = at a ⊠ at (pos m) ⊞ at z in
+    record {
+      low = omega (zarith, h .low, at r ⊠ at (pos m), at z ⊞ at (pos m), sum, moved ⊞ at (pos m));
+      high = omega (zarith, h .high, at r ⊠ at (pos m) ⊞ at (pos m), sum ⊞ at (pos m), moved);
+    }
+
+rounds-below : {r z : ℤ} {m : ℕ} (q : ℤ) → Rounds r z m → z ≤ℤ (q *ℤ pos m) → r ≤ℤ q
+rounds-below {r} {z} {m} q h l =
+    let below : (r *ℤ pos m) <ℤ ((q +ℤ pos 1) *ℤ pos m) = omega (zarith, h .low, at z ⊞ at (pos m), at q ⊠ at (pos m), (at q ⊞ at (pos 1)) ⊠ at (pos m)) in
+    let less : r <ℤ (q +ℤ pos 1) = lt-cancel m below in
+    omega (zarith, at q ⊞ at (pos 1))
+
+rounds-above : {r z : ℤ} {m : ℕ} (q : ℤ) → Rounds r z m → (q *ℤ pos m) ≤ℤ z → q ≤ℤ r
+rounds-above {r} {z} {m} q h l =
+    let below : (q *ℤ pos m) <ℤ ((r +ℤ pos 1) *ℤ pos m) = omega (zarith, h .high, at r ⊠ at (pos m) ⊞ at (pos m), (at r ⊞ at (pos 1)) ⊠ at (pos m)) in
+    let less : q <ℤ (r +ℤ pos 1) = lt-cancel m below in
+    omega (zarith, at r ⊞ at (pos 1))
+
+-- a whole multiple's rounding is exact
+pub rounds-exact : {r : ℤ} {m : ℕ} (q : ℤ) → Rounds r (q *ℤ pos m) m → r ≡ q
+rounds-exact {r} {m} q h = omega (zarith, rounds-below q h (≤ℤ-refl (q *ℤ pos m)), rounds-above q h (≤ℤ-refl (q *ℤ pos m)))
+
+-- a bound of whole size on z / m bounds its rounding
+pub rounds-bound : {r z : ℤ} {m e : ℕ} → Rounds r z m → Abs z (e * m) → Abs r e
+rounds-bound {r} {z} {m} {e} h b =
+    let low = negℤ (pos e) in
+    let above : (low *ℤ pos m) ≤ℤ z = omega (zarith, is-neg (at (pos e)) ⊠ at (pos m)) in
+    let below : z ≤ℤ (pos e *ℤ pos m) = omega zarith in
+    omega (zarith, rounds-above low h above, rounds-below (pos e) h below, is-neg (at (pos e)))
+
 -- ---- rounded down
 
 pub floor-low : (z : ℤ) (m : ℕ) → zero < m → (shrZ z m *ℤ pos m) ≤ℤ z
@@ -39,12 +80,7 @@ floor-rounds z m m0 =
 
 -- the floor is the greatest whole number that is not above z / m
 pub floor-greatest : (q z : ℤ) (m : ℕ) → zero < m → (q *ℤ pos m) ≤ℤ z → q ≤ℤ shrZ z m
-floor-greatest q z m m0 h =
-    let f = shrZ z m in
-    let below : (q *ℤ pos m) <ℤ ((f +ℤ pos 1) *ℤ pos m) =
-    omega (zarith, floor-high z m m0, at f ⊠ at (pos m) ⊞ at (pos m), (at f ⊞ at (pos 1)) ⊠ at (pos m)) in
-    let less : q <ℤ (f +ℤ pos 1) = lt-cancel m below in
-    omega (zarith, at f ⊞ at (pos 1))
+floor-greatest q z m m0 h = rounds-above q (floor-rounds z m m0) h
 
 pub floor-least : (q z : ℤ) (m : ℕ) → zero < m → z <ℤ (q *ℤ pos m +ℤ pos m) → shrZ z m ≤ℤ q
 floor-least q z m m0 h =
@@ -64,9 +100,7 @@ floor-mono {x} {y} m m0 h =
     floor-greatest (shrZ x m) y m m0 (omega zarith)
 
 pub floor-exact : (q : ℤ) (m : ℕ) → zero < m → shrZ (q *ℤ pos m) m ≡ q
-floor-exact q m m0 =
-    let z = q *ℤ pos m in
-    sym (floor-unique q z m m0 (≤ℤ-refl z) (omega (zarith, at z ⊞ at (pos m))))
+floor-exact q m m0 = rounds-exact q (floor-rounds (q *ℤ pos m) m m0)
 
 -- ---- rounded toward zero
 
@@ -90,13 +124,6 @@ pub trunc-high : (z : ℤ) (m : ℕ) → zero < m → natAbs z < natAbs (quotZ z
 trunc-high (pos a) m m0 = omega (arith, div-add-mod' a m, mod-lt a m0)
 trunc-high (negsuc a) m m0 = rw natAbs-neg (omega (arith, div-add-mod' (suc a) m, mod-lt (suc a) m0))
 
-pub rounds-neg : {r z : ℤ} {m : ℕ} → Rounds r z m → Rounds (negℤ r) (negℤ z) m
-rounds-neg {r} {z} {m} h =
-    record {
-      low = omega (zarith, h .high, at r ⊠ at (pos m) ⊞ at (pos m), is-neg (at r) ⊠ at (pos m), is-neg (at z) ⊞ at (pos m));
-      high = omega (zarith, h .low, at z ⊞ at (pos m), at r ⊠ at (pos m), is-neg (at r) ⊠ at (pos m) ⊞ at (pos m), is-neg (at z));
-    }
-
 pub trunc-rounds : (z : ℤ) (m : ℕ) → zero < m → Rounds (quotZ z (pos m)) z m
 trunc-rounds (pos a) m m0 = floor-rounds (pos a) m m0
 trunc-rounds (negsuc a) m m0 = rounds-neg (floor-rounds (pos (suc a)) m m0)
@@ -110,9 +137,4 @@ trunc-mono {x = negsuc a} {y = negsuc b} m m0 h =
     omega (zarith, floor-mono m m0 k, is-neg (at (pos (suc a / m))), is-neg (at (pos (suc b / m))))
 
 pub trunc-exact : (q : ℤ) (m : ℕ) → zero < m → quotZ (q *ℤ pos m) (pos m) ≡ q
-trunc-exact (pos a) m m0 = ap pos (mul-div-cancel a m0)
-trunc-exact (negsuc a) m m0 = trunc-odd (pos (suc a * m)) m ∙ ap (λ (n : ℕ). negℤ (pos n)) (mul-div-cancel (suc a) m0)
-
--- a bound on z bounds its quotient
-pub trunc-abs : {z : ℤ} {e : ℕ} (m : ℕ) → zero < m → Abs z (e * m) → Abs (quotZ z (pos m)) e
-trunc-abs {z} m m0 h = record { bound = le-of-mul-le-mul-right (omega (arith, h, trunc-low z m)) m0 }
+trunc-exact q m m0 = rounds-exact q (trunc-rounds (q *ℤ pos m) m m0)

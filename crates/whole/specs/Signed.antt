@@ -1,16 +1,16 @@
 -- What signed code asks: that a result fits its width (`SFits`), and that bits read back as the number they were written for.
 -- The rules are over any width. `signed` is for `search`; `zfits` is `zarith` with the ranges of the signed widths, for `omega`.
 use mathlib.Core.Path.{_≡_}
-use Prim.Native.Nat.{ℕ, zero, suc, _+_, _*_, _^_, _<_, _≤_, min, max}
+use Prim.Native.Nat.{ℕ, zero, suc, _+_, _*_, _/_, _^_, _<_, _≤_, min, max}
 use native.Mathlib.Omega.{arith}
-use native.Mathlib.Nat.{mul-le-mul, lt-of-lt-of-le}
+use native.Mathlib.Nat.{mul-le-mul, div-le-self, lt-of-lt-of-le}
 use lib.Pow.{pow-add, pow-mono}
 use lib.IntN.{ℤ, pos, negsuc, _*ℤ_, natAbs}
 use lib.Signed.{mag, shrZ, quotZ, mag-shr}
 use mir.Syntax.{Width, w32, w64}
 use mir.Val.{SFits, Fits, bits, hbits, toZ}
 use mir.ValLaws.{toZ-pos, sfits-le, fits-sub}
-use Rattle.whole.specs.Integers.{P, N}
+use Rattle.whole.specs.Integers.{P, N, at, is-neg}
 use Rattle.whole.specs.Order.{zarith, Abs, natAbs-mul}
 
 pub fits-abs : {w : Width} (z : ℤ) → natAbs z < 2 ^ hbits w → SFits w z
@@ -48,3 +48,7 @@ sfits-out {z = pos n} h = record { sfits = omega arith }
 sfits-out {z = negsuc n} h = record { sfits = omega arith }
 
 pub ruleset zfits = (zarith, sfits-in, sfits-out)
+
+pub trunc-fits : {w : Width} {z : ℤ} (m : ℕ) → SFits w z → SFits w (quotZ z (pos m))
+trunc-fits {z = pos a} m h = omega (zfits, div-le-self a m)
+trunc-fits {z = negsuc a} m h = omega (zfits, is-neg (at (pos (suc a / m))), div-le-self (suc a) m)
