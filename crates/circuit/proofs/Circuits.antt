@@ -3,9 +3,10 @@ use Prim.Native.Nat.{ℕ, zero, suc, _-_}
 use mathlib.Core.Bool.{false}
 use mathlib.Core.List.{List, [], _∷_, _++_}
 use lib.ListN.{length, replicate}
-use lib.IntN.{ℤ, pos, negsuc}
+use lib.IntN.{ℤ, pos, negsuc, negℤ}
 use lib.Ieee.{Float, fin, binary64, ofInt}
 use Rattle.circuit.specs.Record.{rowLimit, columnLimit}
+use Rattle.circuit.specs.Run.{Call, Ran, freshWaves, ran}
 use Rattle.circuit.specs.declared.Element.{Element}
 use Rattle.circuit.specs.declared.Element.the-variants.{Resistor, Capacitor, Inductor, Input, Steady}
 use Rattle.circuit.specs.declared.Join.{Join}
@@ -18,7 +19,10 @@ use Rattle.circuit.specs.declared.CurveKind.{CurveKind}
 use Rattle.circuit.specs.declared.CurveKind.the-variants.{Unset, Single, Pair}
 use Rattle.circuit.specs.declared.Record.{Record}
 
--- ---- parts and columns
+-- ---- numbers, parts and columns
+
+abbrev pub minus : ℕ → ℤ
+minus n = negℤ (pos n)
 
 abbrev pub ohms : ℕ → Float
 ohms n = ofInt binary64 (pos n)
@@ -28,6 +32,12 @@ input r = Leaf (Input r)
 
 abbrev pub resistor : Float → Part
 resistor r = Leaf (Resistor r)
+
+abbrev pub capacitor : Float → Part
+capacitor c = Leaf (Capacitor c)
+
+abbrev pub steady : Float → ℤ → Part
+steady r v = Leaf (Steady r v)
 
 abbrev pub inductor : Float → Part
 inductor l = Leaf (Inductor l)
@@ -76,5 +86,19 @@ abbrev pub case8 : Record
 case8 =
     circuit (input (ohms 250) ∷ inductor (fin false 1 (negsuc 6)) ∷ joins Parallel 0 1 ∷ []) 1 Pair curveK (fin false 375 (negsuc 0))
 
-abbrev pub withColumns : CurveKind → List Column → Record
-withColumns kind cs = circuit (input (ohms 1000) ∷ resistor (ohms 3000) ∷ joins Parallel 0 1 ∷ []) 1 kind cs (ohms 750)
+-- 2^-20 F
+abbrev pub capacitive : Record
+capacitive =
+    circuit (input (ohms 1000) ∷ capacitor (fin false 1 (negsuc 19)) ∷ joins Parallel 0 1 ∷ []) 1 Pair curveK (fin false 173 (negsuc 3))
+
+-- case 1 with other columns
+abbrev pub curved : CurveKind → List Column → Record
+curved kind cs = circuit (input (ohms 1000) ∷ resistor (ohms 3000) ∷ joins Parallel 0 1 ∷ []) 1 kind cs (ohms 750)
+
+-- ---- a run from a fresh state, its output in a buffer of sevens
+
+abbrev pub call : Record → List ℤ → List ℤ → Call
+call r waves xs = record { circuit = r; waves = waves; input = xs; output = replicate (length xs) (pos 7) }
+
+unfoldable pub fresh : Record → List ℤ → Ran
+fresh r xs = ran (call r freshWaves xs)

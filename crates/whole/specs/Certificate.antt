@@ -1,7 +1,7 @@
 -- Orders that are not linear, by a certificate: the goal's difference is, by `ring`, a sum of products that are not negative.
 -- `NN z` says that z is not negative; the rules below make such facts from orders, squares, sums and products.
 use mathlib.Core.Path.{_≡_, refl, subst}
-use mathlib.Core.List.{List, [], _∷_}
+use mathlib.Core.List.{List}
 use Prim.Native.Nat.{ℕ, zero}
 use native.Mathlib.Omega.{arith}
 use lib.IntN.{ℤ, pos, negsuc, _+ℤ_, _*ℤ_, _-ℤ_}

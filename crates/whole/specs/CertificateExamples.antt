@@ -1,10 +1,10 @@
 -- Orders of degree two: the sum of products that the goal's two sides differ by, and why it is not negative.
-use mathlib.Core.Path.{_≡_, refl}
-use mathlib.Core.List.{List, [], _∷_}
+use mathlib.Core.Path.{refl}
+use mathlib.Core.List.{[], _∷_}
 use Prim.Native.Nat.{ℕ}
 use lib.IntN.{ℤ, pos, _+ℤ_, _*ℤ_, _-ℤ_}
 use lib.Signed.{_≤ℤ_}
-use Rattle.whole.specs.Ring.{Exp, var, con, _⊕_, _⊗_, _⊝_}
+use Rattle.whole.specs.Ring.{var, con, _⊕_, _⊗_, _⊝_}
 use Rattle.whole.specs.Certificate.{NN, nn-pos, nn-diff, nn-add, nn-mul, nn-square, le-nn, nlin}
 
 twice-a-product : (x y : ℤ) → (pos 2 *ℤ x *ℤ y) ≤ℤ (x *ℤ x +ℤ y *ℤ y)

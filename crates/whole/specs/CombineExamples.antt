@@ -1,8 +1,8 @@
 -- An equation from two others: each fact with the multiplier that brings it into the goal.
 use mathlib.Core.Path.{_≡_, refl}
-use mathlib.Core.List.{List, [], _∷_}
+use mathlib.Core.List.{[], _∷_}
 use lib.IntN.{ℤ, pos, _+ℤ_, _*ℤ_, _-ℤ_}
-use Rattle.whole.specs.Ring.{Exp, var, con, _⊕_, _⊗_, _⊝_}
+use Rattle.whole.specs.Ring.{var, con, _⊕_, _⊗_, _⊝_}
 use Rattle.whole.specs.Combine.{multiple, combine}
 
 -- where w·k is g·(a − b) and u is b + k, w·u is g·a + (w − g)·b

@@ -1,18 +1,17 @@
 -- Laws of fractions: `_≈_` is an equality that every operation keeps, the operations obey the laws of numbers up to it, and
 -- `_≤F_` is a total order on the numbers that the operations keep or turn round.
-use mathlib.Core.Path.{_≡_, refl, sym, _∙_}
-use mathlib.Core.Bool.{Bool, true, false, not}
-use mathlib.Core.List.{List, [], _∷_}
+use mathlib.Core.Path.{_≡_, refl, sym}
+use mathlib.Core.Bool.{Bool, true, false}
+use mathlib.Core.List.{[], _∷_}
 use mathlib.Core.Logic.{_⊎_, inl, inr}
 use Prim.Native.Nat.{ℕ, zero, _*_, _<_}
-use native.Mathlib.Omega.{arith}
 use native.Mathlib.Nat.{mul-pos}
-use lib.IntN.{ℤ, pos, negsuc, _+ℤ_, _*ℤ_, _-ℤ_, negℤ}
+use lib.IntN.{ℤ, pos, negsuc, _+ℤ_, _*ℤ_}
 use lib.Dec.{T}
 use lib.Signed.{_≤ℤ_, _<ℤ_, ≤ℤ-refl, ltZ-yes}
-use Rattle.whole.specs.Integers.{P, N, at, _⊠_}
+use Rattle.whole.specs.Integers.{at, _⊠_}
 use Rattle.whole.specs.Order.{zarith, le-cancel, lt-scale, lt-cancel, eq-cancel, le-or-lt, ltZ-true, ltZ-false}
-use Rattle.whole.specs.Ring.{Exp, var, con, _⊕_, _⊗_, _⊝_, ⊖, ring}
+use Rattle.whole.specs.Ring.{var, con, _⊕_, _⊗_, _⊝_, ring}
 use Rattle.whole.specs.Combine.{multiple, combine}
 use Rattle.whole.specs.Certificate.{nn-pos, nn-add, nn-mul, nn-diff, nlin}
 use Rattle.whole.specs.Mirror.{parts, fracE, overE, wholeE, _⊕F_, ⊖F, _⊝F_, timesE, by, by-facts, by-certificate}
@@ -63,42 +62,42 @@ pub ≈-times : (c : ℤ) (k : ℕ) (k0 : zero < k) {p q : Fraction} → p ≈ q
 
 -- ---- sums, differences, opposites, products by a ratio
 
-pub +F-comm : (p q : Fraction) → p +F q ≈ q +F p
-+F-comm p q = record { same = by (parts (p ∷ q ∷ []) []) (fracE 0 ⊕F fracE 1) (fracE 1 ⊕F fracE 0) refl }
+pub sum-comm : (p q : Fraction) → p +F q ≈ q +F p
+sum-comm p q = record { same = by (parts (p ∷ q ∷ []) []) (fracE 0 ⊕F fracE 1) (fracE 1 ⊕F fracE 0) refl }
 
-pub +F-assoc : (p q r : Fraction) → p +F q +F r ≈ p +F (q +F r)
-+F-assoc p q r =
+pub sum-assoc : (p q r : Fraction) → p +F q +F r ≈ p +F (q +F r)
+sum-assoc p q r =
     record { same = by (parts (p ∷ q ∷ r ∷ []) []) (fracE 0 ⊕F fracE 1 ⊕F fracE 2) (fracE 0 ⊕F (fracE 1 ⊕F fracE 2)) refl }
 
-pub +F-zero : (p : Fraction) → p +F whole (pos 0) ≈ p
-+F-zero p = record { same = by (parts (p ∷ []) []) (fracE 0 ⊕F wholeE (con (pos 0))) (fracE 0) refl }
+pub sum-zero : (p : Fraction) → p +F whole (pos 0) ≈ p
+sum-zero p = record { same = by (parts (p ∷ []) []) (fracE 0 ⊕F wholeE (con (pos 0))) (fracE 0) refl }
 
-pub -F-self : (p : Fraction) → p -F p ≈ whole (pos 0)
--F-self p = record { same = by (parts (p ∷ []) []) (fracE 0 ⊝F fracE 0) (wholeE (con (pos 0))) refl }
+pub difference-self : (p : Fraction) → p -F p ≈ whole (pos 0)
+difference-self p = record { same = by (parts (p ∷ []) []) (fracE 0 ⊝F fracE 0) (wholeE (con (pos 0))) refl }
 
-pub +F--F : (p q : Fraction) → p +F q -F q ≈ p
-+F--F p q = record { same = by (parts (p ∷ q ∷ []) []) (fracE 0 ⊕F fracE 1 ⊝F fracE 1) (fracE 0) refl }
+pub sum-undo : (p q : Fraction) → p +F q -F q ≈ p
+sum-undo p q = record { same = by (parts (p ∷ q ∷ []) []) (fracE 0 ⊕F fracE 1 ⊝F fracE 1) (fracE 0) refl }
 
-pub negF-negF : (p : Fraction) → negF (negF p) ≈ p
-negF-negF p = record { same = by (parts (p ∷ []) []) (⊖F (⊖F (fracE 0))) (fracE 0) refl }
+pub opposite-twice : (p : Fraction) → negF (negF p) ≈ p
+opposite-twice p = record { same = by (parts (p ∷ []) []) (⊖F (⊖F (fracE 0))) (fracE 0) refl }
 
-pub negF-+F : (p q : Fraction) → negF (p +F q) ≈ negF p +F negF q
-negF-+F p q = record { same = by (parts (p ∷ q ∷ []) []) (⊖F (fracE 0 ⊕F fracE 1)) (⊖F (fracE 0) ⊕F ⊖F (fracE 1)) refl }
+pub opposite-sum : (p q : Fraction) → negF (p +F q) ≈ negF p +F negF q
+opposite-sum p q = record { same = by (parts (p ∷ q ∷ []) []) (⊖F (fracE 0 ⊕F fracE 1)) (⊖F (fracE 0) ⊕F ⊖F (fracE 1)) refl }
 
-pub negF--F : (p q : Fraction) → negF (p -F q) ≈ q -F p
-negF--F p q = record { same = by (parts (p ∷ q ∷ []) []) (⊖F (fracE 0 ⊝F fracE 1)) (fracE 1 ⊝F fracE 0) refl }
+pub opposite-difference : (p q : Fraction) → negF (p -F q) ≈ q -F p
+opposite-difference p q = record { same = by (parts (p ∷ q ∷ []) []) (⊖F (fracE 0 ⊝F fracE 1)) (fracE 1 ⊝F fracE 0) refl }
 
-pub whole-+F : (a b : ℤ) → whole a +F whole b ≈ whole (a +ℤ b)
-whole-+F a b = record { same = by (a ∷ b ∷ []) (wholeE (var 0) ⊕F wholeE (var 1)) (wholeE (var 0 ⊕ var 1)) refl }
+pub whole-sum : (a b : ℤ) → whole a +F whole b ≈ whole (a +ℤ b)
+whole-sum a b = record { same = by (a ∷ b ∷ []) (wholeE (var 0) ⊕F wholeE (var 1)) (wholeE (var 0 ⊕ var 1)) refl }
 
 module _ (c : ℤ) (k : ℕ) (k0 : zero < k) where
-  pub times-+F : (p q : Fraction) → times c k k0 (p +F q) ≈ times c k k0 p +F times c k k0 q
-  times-+F p q =
+  pub times-sum : (p q : Fraction) → times c k k0 (p +F q) ≈ times c k k0 p +F times c k k0 q
+  times-sum p q =
       let t = timesE (var 4) (var 5) in
       record { same = by (parts (p ∷ q ∷ []) (c ∷ pos k ∷ [])) (t (fracE 0 ⊕F fracE 1)) (t (fracE 0) ⊕F t (fracE 1)) refl }
 
-  pub times-negF : (p : Fraction) → times c k k0 (negF p) ≈ negF (times c k k0 p)
-  times-negF p =
+  pub times-opposite : (p : Fraction) → times c k k0 (negF p) ≈ negF (times c k k0 p)
+  times-opposite p =
       let t = timesE (var 2) (var 3) in
       record { same = by (parts (p ∷ []) (c ∷ pos k ∷ [])) (t (⊖F (fracE 0))) (⊖F (t (fracE 0))) refl }
 
@@ -158,7 +157,7 @@ pub ≤F-add : {p q r s : Fraction} → p ≤F q → r ≤F s → p +F r ≤F q 
 -- what stands on both sides of a sum may go
 pub ≤F-cancel : {p q : Fraction} (r : Fraction) → p +F r ≤F q +F r → p ≤F q
 ≤F-cancel {p} {q} r h =
-    ≤F-trans (≈-≤F (≈-sym (+F--F p r))) (≤F-trans (≤F-add h (≤F-refl (negF r))) (≈-≤F (+F--F q r)))
+    ≤F-trans (≈-≤F (≈-sym (sum-undo p r))) (≤F-trans (≤F-add h (≤F-refl (negF r))) (≈-≤F (sum-undo q r)))
 
 -- a ratio that is not negative keeps the order
 pub ≤F-times : (c k : ℕ) (k0 : zero < k) {p q : Fraction} → p ≤F q → times (pos c) k k0 p ≤F times (pos c) k k0 q
@@ -171,18 +170,18 @@ pub ≤F-times : (c k : ℕ) (k0 : zero < k) {p q : Fraction} → p ≤F q → t
 
 -- ---- the test `below`
 
-pub below-true : {p : Fraction} {z : ℤ} → below p z ≡ true → p ≤F whole z
-below-true {p} {z} h =
+pub below-true : (p : Fraction) (z : ℤ) → below p z ≡ true → p ≤F whole z
+below-true p z h =
     let n = p .num in
     let y = z *ℤ pos (p .den) in
-    let l : n <ℤ y = ltZ-true h in
+    let l : n <ℤ y = ltZ-true n y h in
     record { le = omega (zarith, at n ⊠ at (pos 1)) }
 
-pub below-false : {p : Fraction} {z : ℤ} → below p z ≡ false → whole z ≤F p
-below-false {p} {z} h =
+pub below-false : (p : Fraction) (z : ℤ) → below p z ≡ false → whole z ≤F p
+below-false p z h =
     let n = p .num in
     let y = z *ℤ pos (p .den) in
-    let l : y ≤ℤ n = ltZ-false h in
+    let l : y ≤ℤ n = ltZ-false n y h in
     record { le = omega (zarith, at n ⊠ at (pos 1)) }
 
 less-as : {p q : Fraction} (z : ℤ) → p ≈ q → p .num <ℤ (z *ℤ pos (p .den)) → q .num <ℤ (z *ℤ pos (q .den))
@@ -197,8 +196,8 @@ less-as {p} {q} z h l =
     let less : x′ <ℤ y′ = omega zarith in
     lt-cancel (p .den) less
 
-pub below-as : {p q : Fraction} (z : ℤ) → p ≈ q → below p z ≡ below q z
-below-as {p} {q} z h = choose (below p z) (below q z) (λ t. less-as z h (ltZ-yes t) .lt) (λ t. less-as z (≈-sym h) (ltZ-yes t) .lt)
+pub below-as : (p q : Fraction) (z : ℤ) → p ≈ q → below p z ≡ below q z
+below-as p q z h = choose (below p z) (below q z) (λ t. less-as z h (ltZ-yes t) .lt) (λ t. less-as z (≈-sym h) (ltZ-yes t) .lt)
   where
     choose : (b c : Bool) → (T b → T c) → (T c → T b) → b ≡ c
     choose true true f g = refl

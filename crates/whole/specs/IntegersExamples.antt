@@ -1,10 +1,9 @@
--- Uses of the two parts of an integer by hand: an equation or an order, from what each side is in natural numbers.
+-- Uses of the two parts of an integer by hand: an equation, from what each side is in natural numbers.
 use mathlib.Core.Path.{_≡_, ap, _∙_}
-use Prim.Native.Nat.{ℕ, _+_, _*_}
+use Prim.Native.Nat.{_+_}
 use native.Mathlib.Omega.{arith}
 use lib.IntN.{ℤ, pos, _+ℤ_, _*ℤ_, _-ℤ_, negℤ}
-use lib.Signed.{_≤ℤ_, _<ℤ_}
-use Rattle.whole.specs.Integers.{P, N, Is, at, is-neg, _⊞_, _⊟_, _⊠_, is-eq, is-le, le-is, is-lt, lt-is, *ℤ-assoc, *ℤ-+ℤ, +ℤ-*ℤ}
+use Rattle.whole.specs.Integers.{P, N, Is, at, is-neg, _⊞_, _⊟_, _⊠_, is-eq, *ℤ-assoc, *ℤ-+ℤ, +ℤ-*ℤ}
 
 difference-by-parts : (x y : ℤ) → Is (x -ℤ y) (P x + N y) (N x + P y)
 difference-by-parts x y = at x ⊟ at y
@@ -13,11 +12,8 @@ square-of-a-sum : (x y : ℤ) → (x +ℤ y) *ℤ (x +ℤ y) ≡ x *ℤ x +ℤ p
 square-of-a-sum x y =
     is-eq ((at x ⊞ at y) ⊠ (at x ⊞ at y)) (at x ⊠ at x ⊞ at (pos 2) ⊠ at x ⊠ at y ⊞ at y ⊠ at y) (omega arith)
 
-opposites-turn-round : {x y : ℤ} → x ≤ℤ y → negℤ y ≤ℤ negℤ x
-opposites-turn-round {x} {y} h = is-le (is-neg (at y)) (is-neg (at x)) (omega (arith, le-is (at x) (at y) h))
-
-a-sum-keeps-strict-order : {x y : ℤ} (z : ℤ) → x <ℤ y → (x +ℤ z) <ℤ (y +ℤ z)
-a-sum-keeps-strict-order {x} {y} z h = is-lt (at x ⊞ at z) (at y ⊞ at z) (omega (arith, lt-is (at x) (at y) h))
+opposite-of-a-product : (x y : ℤ) → negℤ (x *ℤ y) ≡ negℤ x *ℤ y
+opposite-of-a-product x y = is-eq (is-neg (at x ⊠ at y)) (is-neg (at x) ⊠ at y) (omega arith)
 
 regrouped : (a b c d : ℤ) → a *ℤ b *ℤ c *ℤ d ≡ a *ℤ (b *ℤ (c *ℤ d))
 regrouped a b c d = *ℤ-assoc (a *ℤ b) c d ∙ *ℤ-assoc a b (c *ℤ d)

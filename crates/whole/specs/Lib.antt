@@ -20,3 +20,6 @@ pub mod QuotientsExamples
 pub mod RingExamples
 pub mod CombineExamples
 pub mod CertificateExamples
+pub mod FractionsExamples
+pub mod NearnessExamples
+pub mod SignedExamples

@@ -1,20 +1,20 @@
 -- How near a whole number is to a fraction (`Near`) and how small a fraction is (`Small`), with what sums, opposites, ratios
 -- and roundings do to it. An error bound of a computation is a chain of these laws; the mixing law at the end is one adaptor's.
 use mathlib.Core.Path.{_≡_, refl, ap}
-use mathlib.Core.List.{List, [], _∷_}
-use Prim.Native.Nat.{ℕ, zero, suc, _+_, _*_, _-_, _^_, _<_, _≤_, max}
+use mathlib.Core.List.{[], _∷_}
+use Prim.Native.Nat.{ℕ, zero, _+_, _*_, _-_, _^_, _<_, _≤_, max}
 use native.Mathlib.Omega.{arith}
-use native.Mathlib.Nat.{mul-le-mul, mul-le-mul-right, mul-pos, le-of-mul-le-mul-right, le-max-left, le-max-right}
+use native.Mathlib.Nat.{mul-le-mul-right, mul-pos, le-of-mul-le-mul-right, le-max-left, le-max-right}
 use lib.Pow.{pow-pos}
 use lib.IntN.{ℤ, pos, negsuc, _+ℤ_, _*ℤ_, _-ℤ_, negℤ, natAbs}
 use lib.Signed.{_≤ℤ_}
-use Rattle.whole.specs.Integers.{P, N, at, is-neg, _⊟_, _⊠_}
+use Rattle.whole.specs.Integers.{at, is-neg, _⊟_, _⊠_}
 use Rattle.whole.specs.Order.{zarith, Abs, abs-parts, natAbs-neg, natAbs-mul, abs-add, abs-neg, abs-mul, abs-scale, abs-as}
 use Rattle.whole.specs.Ring.{Exp, var, con, _⊕_, _⊗_, _⊝_, ⊖}
 use Rattle.whole.specs.Combine.{multiple}
 use Rattle.whole.specs.Mirror.{Quot, parts, fracE, overE, wholeE, _⊕F_, ⊖F, _⊝F_, timesE, by, by-facts}
 use Rattle.whole.specs.Quotients.{Rounds, rounds-abs}
-use Rattle.whole.specs.Fractions.{negF-+F, negF--F}
+use Rattle.whole.specs.Fractions.{opposite-sum, opposite-difference}
 use Rattle.whole.specs.Fraction.{Fraction, over, whole, _+F_, negF, _-F_, times, _≈_, _≤F_}
 
 -- ---- |p| ≤ E
@@ -65,8 +65,10 @@ no-further-neg {p} {q} h = record { no-further = rw (natAbs-neg (p .num), natAbs
 
 pub no-further-as : {p p′ q q′ : Fraction} → p ≈ p′ → q ≈ q′ → NoFurther p q → NoFurther p′ q′
 no-further-as {p} {p′} {q} {q′} e f h =
-    let l : natAbs (p′ .num) * q′ .den * (p .den * q .den) ≤ natAbs (q′ .num) * p′ .den * (p .den * q .den) =
-          omega (arith, ap (λ (t : ℕ). t * (q .den * q′ .den)) (size-as e), ap (λ (t : ℕ). t * (p .den * p′ .den)) (size-as f), mul-le-mul-right (p′ .den * q′ .den) (h .no-further)) in
+    let first = ap (λ (t : ℕ). t * (q .den * q′ .den)) (size-as e) in
+    let second = ap (λ (t : ℕ). t * (p .den * p′ .den)) (size-as f) in
+    let known = mul-le-mul-right (p′ .den * q′ .den) (h .no-further) in
+    let l : natAbs (p′ .num) * q′ .den * (p .den * q .den) ≤ natAbs (q′ .num) * p′ .den * (p .den * q .den) = omega (arith, first, second, known) in
     record { no-further = le-of-mul-le-mul-right l (mul-pos (p .den-pos) (q .den-pos)) }
 
 pub small-by : {E : ℕ} {p q : Fraction} → NoFurther p q → Small E q → Small E p
@@ -141,10 +143,10 @@ apart-trans p q r h k =
     small-as (record { same = by (parts (p ∷ q ∷ r ∷ []) []) (fracE 0 ⊝F fracE 1 ⊕F (fracE 1 ⊝F fracE 2)) (fracE 0 ⊝F fracE 2) refl }) (small-add h k)
 
 pub apart-sym : {E : ℕ} (p q : Fraction) → Small E (p -F q) → Small E (q -F p)
-apart-sym p q h = small-as (negF--F p q) (small-neg h)
+apart-sym p q h = small-as (opposite-difference p q) (small-neg h)
 
 pub apart-neg : {E : ℕ} (p q : Fraction) → Small E (p -F q) → Small E (negF p -F negF q)
-apart-neg p q h = small-as (negF-+F p (negF q)) (small-neg h)
+apart-neg p q h = small-as (opposite-sum p (negF q)) (small-neg h)
 
 pub apart-add : {E F : ℕ} (p p′ q q′ : Fraction) → Small E (p -F p′) → Small F (q -F q′) → Small (E + F) (p +F q -F (p′ +F q′))
 apart-add p p′ q q′ h k =

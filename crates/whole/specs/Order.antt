@@ -1,33 +1,47 @@
 -- Orders, equations and absolute values of integers for `omega`: the ruleset `zarith`. Beside it entries such as
 -- `at x ⊞ at y ⊟ at z` say what each sum or product in the goal is; without its entry a sum is an unknown.
-use mathlib.Core.Path.{_≡_, refl, sym, ap, _∙_, subst}
+use mathlib.Core.Path.{_≡_, refl, sym, subst}
 use Prim.Native.Nat.{ℕ, zero, suc, _+_, _*_, _<_, _≤_, min, max}
 use native.Mathlib.Omega.{arith}
 use native.Mathlib.Nat.{mul-le-mul, mul-le-mul-right, mul-lt-mul-of-pos-right, le-of-mul-le-mul-right, eq-of-mul-eq-mul-right, lt-of-mul-lt-mul-right}
 use mathlib.Core.Logic.{_⊎_, inl, inr}
 use mathlib.Core.Bool.{Bool, true, false, not}
-use lib.Dec.{T}
-use lib.IntN.{ℤ, pos, negsuc, _+ℤ_, _*ℤ_, _-ℤ_, negℤ, natAbs}
+use lib.Dec.{T, leb→le, le→leb, ltb→lt, lt→ltb}
+use lib.IntN.{ℤ, pos, negsuc, _+ℤ_, _*ℤ_, negℤ, natAbs}
 use lib.Signed.{_≤ℤ_, _<ℤ_, leZ, ltZ, leZ-yes, ltZ-yes, ltZ-no, clashℤ}
-use Rattle.whole.specs.Integers.{P, N, Is, at, is-neg, _⊞_, _⊠_, is-eq, is-le, le-is, is-lt, lt-is}
+use Rattle.whole.specs.Integers.{P, N, at, is-neg, _⊞_, _⊠_, is-eq}
+
+-- ---- an order or an equation as one between natural numbers (`-in`), and back (`-out`)
 
 pub le-in : {x y : ℤ} → x ≤ℤ y → P x + N y ≤ P y + N x
-le-in {x} {y} h = le-is (at x) (at y) h
+le-in {x = pos a} {y = pos b} h = omega (arith, leb→le a b (h .le))
+le-in {x = negsuc a} {y = negsuc b} h = omega (arith, leb→le b a (h .le))
+le-in {x = negsuc a} {y = pos b} h = omega arith
+le-in {x = pos a} {y = negsuc b} h = absurd (h .le)
 
 pub le-out : {x y : ℤ} → P x + N y ≤ P y + N x → x ≤ℤ y
-le-out {x} {y} h = is-le (at x) (at y) h
+le-out {x = pos a} {y = pos b} h = leZ-yes (le→leb a b (omega arith))
+le-out {x = negsuc a} {y = negsuc b} h = leZ-yes (le→leb b a (omega arith))
+le-out {x = negsuc a} {y = pos b} h = leZ-yes tt
+le-out {x = pos a} {y = negsuc b} h = absurd (omega arith)
 
 pub lt-in : {x y : ℤ} → x <ℤ y → P x + N y < P y + N x
-lt-in {x} {y} h = lt-is (at x) (at y) h
+lt-in {x = pos a} {y = pos b} h = omega (arith, ltb→lt a b (h .lt))
+lt-in {x = negsuc a} {y = negsuc b} h = omega (arith, ltb→lt b a (h .lt))
+lt-in {x = negsuc a} {y = pos b} h = omega arith
+lt-in {x = pos a} {y = negsuc b} h = absurd (h .lt)
 
 pub lt-out : {x y : ℤ} → P x + N y < P y + N x → x <ℤ y
-lt-out {x} {y} h = is-lt (at x) (at y) h
+lt-out {x = pos a} {y = pos b} h = ltZ-yes (lt→ltb a b (omega arith))
+lt-out {x = negsuc a} {y = negsuc b} h = ltZ-yes (lt→ltb b a (omega arith))
+lt-out {x = negsuc a} {y = pos b} h = ltZ-yes tt
+lt-out {x = pos a} {y = negsuc b} h = absurd (omega arith)
 
 pub eq-in : {x y : ℤ} → x ≡ y → P x + N y ≡ P y + N x
-eq-in {x} {y} h = ap (λ (t : ℤ). P t + N y) h ∙ sym (ap (λ (t : ℤ). P y + N t) h)
+eq-in {x} {y} e = subst (λ (z : ℤ). P x + N z ≡ P z + N x) e refl
 
 pub eq-out : {x y : ℤ} → P x + N y ≡ P y + N x → x ≡ y
-eq-out {x} {y} h = is-eq (at x) (at y) h
+eq-out {x} {y} e = is-eq (at x) (at y) e
 
 -- one of the two parts is zero, and the absolute value is the other
 pub abs-parts : (z : ℤ) → (natAbs z ≡ P z + N z) × (min (P z) (N z) ≡ 0)
@@ -71,7 +85,7 @@ abs-mul {x} {y} h k = record { bound = omega (arith, natAbs-mul x y, mul-le-mul 
 pub abs-scale : {x : ℤ} {a : ℕ} → Abs x a → (n : ℕ) → Abs (x *ℤ pos n) (a * n)
 abs-scale h n = abs-mul h (record { bound = omega arith })
 
--- the same number, and a bound that is no less
+-- under another name for the number, and with room to spare
 pub abs-as : {x y : ℤ} {a b : ℕ} → Abs x a → x ≡ y → a ≤ b → Abs y b
 abs-as h e l = rw (← e) (record { bound = omega (arith, h) })
 
@@ -100,50 +114,40 @@ eq-cancel {x} {y} k k0 h =
 
 -- ---- tests, as an `if` of signed code makes them
 
-pub ltZ-true : {x y : ℤ} → ltZ x y ≡ true → x <ℤ y
-ltZ-true e = ltZ-yes (subst T (sym e) tt)
+pub ltZ-true : (x y : ℤ) → ltZ x y ≡ true → x <ℤ y
+ltZ-true x y e = ltZ-yes (subst T (sym e) tt)
 
-pub ltZ-false : {x y : ℤ} → ltZ x y ≡ false → y ≤ℤ x
-ltZ-false e = ltZ-no (subst (λ (t : Bool). T (not t)) (sym e) tt)
+pub ltZ-false : (x y : ℤ) → ltZ x y ≡ false → y ≤ℤ x
+ltZ-false x y e = ltZ-no (subst (λ (t : Bool). T (not t)) (sym e) tt)
 
 pub le-or-lt : (x y : ℤ) → (x ≤ℤ y) ⊎ (y <ℤ x)
 le-or-lt x y = choose (ltZ y x) refl
   where
     choose : (c : Bool) → ltZ y x ≡ c → (x ≤ℤ y) ⊎ (y <ℤ x)
-    choose true e = inr (ltZ-true e)
-    choose false e = inl (ltZ-false e)
+    choose true e = inr (ltZ-true y x e)
+    choose false e = inl (ltZ-false y x e)
 
-pub leZ-true : {x y : ℤ} → leZ x y ≡ true → x ≤ℤ y
-leZ-true e = leZ-yes (subst T (sym e) tt)
+pub leZ-true : (x y : ℤ) → leZ x y ≡ true → x ≤ℤ y
+leZ-true x y e = leZ-yes (subst T (sym e) tt)
 
-pub leZ-false : {x y : ℤ} → leZ x y ≡ false → y <ℤ x
-leZ-false {x} {y} e = elim (le-or-lt x y) [ inl h ↦ absurd (subst T e (h .le)) | inr h ↦ h ]
+pub leZ-false : (x y : ℤ) → leZ x y ≡ false → y <ℤ x
+leZ-false x y e = elim (le-or-lt x y) [ inl h ↦ absurd (subst T e (h .le)) | inr h ↦ h ]
 
--- the same the other way: what the test answers
+-- and what a test answers where the order is known
+answers : (b c : Bool) → (b ≡ not c → ⊥) → b ≡ c
+answers true true f = refl
+answers true false f = absurd (f refl)
+answers false true f = absurd (f refl)
+answers false false f = refl
+
 pub true-ltZ : {x y : ℤ} → x <ℤ y → ltZ x y ≡ true
-true-ltZ {x} {y} h = choose (ltZ x y) refl
-  where
-    choose : (c : Bool) → ltZ x y ≡ c → c ≡ true
-    choose true e = refl
-    choose false e = clashℤ h (ltZ-false e)
+true-ltZ {x} {y} h = answers (ltZ x y) true (λ e. clashℤ h (ltZ-false x y e))
 
 pub false-ltZ : {x y : ℤ} → y ≤ℤ x → ltZ x y ≡ false
-false-ltZ {x} {y} h = choose (ltZ x y) refl
-  where
-    choose : (c : Bool) → ltZ x y ≡ c → c ≡ false
-    choose true e = clashℤ (ltZ-true e) h
-    choose false e = refl
+false-ltZ {x} {y} h = answers (ltZ x y) false (λ e. clashℤ (ltZ-true x y e) h)
 
 pub true-leZ : {x y : ℤ} → x ≤ℤ y → leZ x y ≡ true
-true-leZ {x} {y} h = choose (leZ x y) refl
-  where
-    choose : (c : Bool) → leZ x y ≡ c → c ≡ true
-    choose true e = refl
-    choose false e = clashℤ (leZ-false e) h
+true-leZ {x} {y} h = answers (leZ x y) true (λ e. clashℤ (leZ-false x y e) h)
 
 pub false-leZ : {x y : ℤ} → y <ℤ x → leZ x y ≡ false
-false-leZ {x} {y} h = choose (leZ x y) refl
-  where
-    choose : (c : Bool) → leZ x y ≡ c → c ≡ false
-    choose true e = clashℤ h (leZ-true e)
-    choose false e = refl
+false-leZ {x} {y} h = answers (leZ x y) false (λ e. clashℤ h (leZ-true x y e))

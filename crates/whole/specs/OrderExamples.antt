@@ -1,12 +1,12 @@
 -- Uses of `zarith`, of `Abs` and of the tests: each sum or product of a goal has its entry beside the ruleset.
 use mathlib.Core.Path.{_≡_, refl, _∙_, ap}
 use mathlib.Core.Bool.{Bool, true, false, cond}
-use mathlib.Core.Logic.{_⊎_, inl, inr}
-use Prim.Native.Nat.{ℕ, zero, _+_, _*_, _^_, _<_, _≤_, min, max}
+use mathlib.Core.Logic.{inl, inr}
+use Prim.Native.Nat.{ℕ, _+_, _*_, _^_, _≤_}
 use native.Mathlib.Omega.{arith}
-use lib.IntN.{ℤ, pos, negsuc, _+ℤ_, _*ℤ_, _-ℤ_, negℤ, natAbs}
+use lib.IntN.{ℤ, pos, _+ℤ_, _*ℤ_, _-ℤ_, negℤ, natAbs}
 use lib.Signed.{_≤ℤ_, _<ℤ_, leZ, ltZ}
-use Rattle.whole.specs.Integers.{P, N, at, is-neg, _⊞_, _⊟_, _⊠_}
+use Rattle.whole.specs.Integers.{at, is-neg, _⊞_, _⊟_}
 use Rattle.whole.specs.Order.{zarith, Abs, abs-parts, natAbs-neg, natAbs-mul, abs-add, abs-neg, abs-mul, abs-scale, abs-as, le-scale, lt-scale, le-cancel, lt-cancel, eq-cancel, le-or-lt, ltZ-true, ltZ-false, leZ-true, leZ-false, true-ltZ, false-ltZ, true-leZ, false-leZ}
 
 next-is-no-higher : (p q r : ℤ) → p ≤ℤ q → q <ℤ r → (p +ℤ pos 1) ≤ℤ r
@@ -14,6 +14,9 @@ next-is-no-higher p q r h k = omega (zarith, at p ⊞ at (pos 1))
 
 two-orders-make-an-equation : (p q : ℤ) → p ≤ℤ q → q ≤ℤ p → p ≡ q
 two-orders-make-an-equation p q h k = omega zarith
+
+opposites-turn-round : (x y : ℤ) → x <ℤ y → negℤ y <ℤ negℤ x
+opposites-turn-round x y h = omega (zarith, is-neg (at x), is-neg (at y))
 
 less-half-a-turn : (a : ℤ) → a ≤ℤ pos (2 ^ 24) → (a -ℤ pos (2 ^ 23)) ≤ℤ pos (2 ^ 23)
 less-half-a-turn a h = omega (zarith, at a ⊟ at (pos (2 ^ 23)))
@@ -59,17 +62,16 @@ unfolding lesser
 lesser-is-no-higher x y = choose (ltZ x y) refl
   where
     choose : (c : Bool) → ltZ x y ≡ c → (cond c x y ≤ℤ x) × (cond c x y ≤ℤ y)
-    choose true e = let h = ltZ-true e in omega zarith
-    choose false e = let h = ltZ-false e in omega zarith
+    choose true e = omega (zarith, ltZ-true x y e)
+    choose false e = omega (zarith, ltZ-false x y e)
 
 at-most-is-not-above : (x y : ℤ) → leZ x y ≡ true → ltZ y x ≡ false
-at-most-is-not-above x y e = false-ltZ (leZ-true e)
+at-most-is-not-above x y e = false-ltZ (leZ-true x y e)
 
 not-at-most-is-above : (x y : ℤ) → leZ x y ≡ false → ltZ y x ≡ true
-not-at-most-is-above x y e = true-ltZ (leZ-false e)
+not-at-most-is-above x y e = true-ltZ (leZ-false x y e)
 
-below-is-at-most : (x y : ℤ) → ltZ x y ≡ true → leZ x y ≡ true
-below-is-at-most x y e = true-leZ (let h = ltZ-true e in omega zarith)
-
-above-is-not-at-most : (x y : ℤ) → ltZ y x ≡ true → leZ x y ≡ false
-above-is-not-at-most x y e = false-leZ (ltZ-true e)
+ends-of-an-order : (x y : ℤ) → x ≤ℤ y → (leZ x y ≡ true) × (leZ (y +ℤ pos 1) x ≡ false)
+ends-of-an-order x y h =
+    let above : x <ℤ (y +ℤ pos 1) = omega (zarith, at y ⊞ at (pos 1)) in
+    (true-leZ h, false-leZ above)

@@ -3,13 +3,13 @@
 use mathlib.Core.Path.{_≡_, refl, sym, ap, _∙_}
 use Prim.Native.Nat.{ℕ, zero, suc, _+_, _*_, _/_, _<_, _≤_}
 use native.Mathlib.Omega.{arith}
-use native.Mathlib.Nat.{div-add-mod', mod-lt, mul-div-cancel, zero-div, le-of-mul-le-mul-right}
+use native.Mathlib.Nat.{div-add-mod', mod-lt, zero-div}
 use lib.IntN.{ℤ, pos, negsuc, _+ℤ_, _*ℤ_, _-ℤ_, negℤ, natAbs, negℤ-negℤ}
 use lib.Signed.{_≤ℤ_, _<ℤ_, shrZ, quotZ, ≤ℤ-refl}
-use Rattle.whole.specs.Integers.{P, N, at, is-neg, _⊞_, _⊟_, _⊠_}
-use Rattle.whole.specs.Order.{zarith, Abs, abs-parts, natAbs-neg, lt-cancel}
+use Rattle.whole.specs.Integers.{at, is-neg, _⊞_, _⊟_, _⊠_}
+use Rattle.whole.specs.Order.{zarith, Abs, natAbs-neg, lt-cancel}
 
--- the whole number r is less than one away from z / m
+-- the whole number r is less than one away from z / m, times m on both sides: r·m − m < z < r·m + m
 pub record Rounds (r z : ℤ) (m : ℕ) : Type 0 where
   pub low : (r *ℤ pos m) <ℤ (z +ℤ pos m)
   pub high : z <ℤ (r *ℤ pos m +ℤ pos m)
@@ -38,17 +38,20 @@ rounds-add {r} {z} {m} a h =
       high = omega (zarith, h .high, at r ⊠ at (pos m) ⊞ at (pos m), sum ⊞ at (pos m), moved);
     }
 
-rounds-below : {r z : ℤ} {m : ℕ} (q : ℤ) → Rounds r z m → z ≤ℤ (q *ℤ pos m) → r ≤ℤ q
-rounds-below {r} {z} {m} q h l =
-    let below : (r *ℤ pos m) <ℤ ((q +ℤ pos 1) *ℤ pos m) = omega (zarith, h .low, at z ⊞ at (pos m), at q ⊠ at (pos m), (at q ⊞ at (pos 1)) ⊠ at (pos m)) in
-    let less : r <ℤ (q +ℤ pos 1) = lt-cancel m below in
+-- x is at most q where x·m is not as much as q·m and one m more
+at-most : (x q : ℤ) (m : ℕ) → (x *ℤ pos m) <ℤ (q *ℤ pos m +ℤ pos m) → x ≤ℤ q
+at-most x q m h =
+    let below : (x *ℤ pos m) <ℤ ((q +ℤ pos 1) *ℤ pos m) = omega (zarith, at q ⊠ at (pos m) ⊞ at (pos m), (at q ⊞ at (pos 1)) ⊠ at (pos m)) in
+    let less : x <ℤ (q +ℤ pos 1) = lt-cancel m below in
     omega (zarith, at q ⊞ at (pos 1))
 
+rounds-below : {r z : ℤ} {m : ℕ} (q : ℤ) → Rounds r z m → z ≤ℤ (q *ℤ pos m) → r ≤ℤ q
+rounds-below {r} {z} {m} q h l =
+    let y = q *ℤ pos m in
+    at-most r q m (omega (zarith, h .low, at z ⊞ at (pos m), at y ⊞ at (pos m)))
+
 rounds-above : {r z : ℤ} {m : ℕ} (q : ℤ) → Rounds r z m → (q *ℤ pos m) ≤ℤ z → q ≤ℤ r
-rounds-above {r} {z} {m} q h l =
-    let below : (q *ℤ pos m) <ℤ ((r +ℤ pos 1) *ℤ pos m) = omega (zarith, h .high, at r ⊠ at (pos m) ⊞ at (pos m), (at r ⊞ at (pos 1)) ⊠ at (pos m)) in
-    let less : q <ℤ (r +ℤ pos 1) = lt-cancel m below in
-    omega (zarith, at r ⊞ at (pos 1))
+rounds-above {r} {z} {m} q h l = at-most q r m (omega (zarith, h .high))
 
 -- a whole multiple's rounding is exact
 pub rounds-exact : {r : ℤ} {m : ℕ} (q : ℤ) → Rounds r (q *ℤ pos m) m → r ≡ q
@@ -83,12 +86,7 @@ pub floor-greatest : (q z : ℤ) (m : ℕ) → zero < m → (q *ℤ pos m) ≤�
 floor-greatest q z m m0 h = rounds-above q (floor-rounds z m m0) h
 
 pub floor-least : (q z : ℤ) (m : ℕ) → zero < m → z <ℤ (q *ℤ pos m +ℤ pos m) → shrZ z m ≤ℤ q
-floor-least q z m m0 h =
-    let f = shrZ z m in
-    let below : (f *ℤ pos m) <ℤ ((q +ℤ pos 1) *ℤ pos m) =
-    omega (zarith, floor-low z m m0, at q ⊠ at (pos m) ⊞ at (pos m), (at q ⊞ at (pos 1)) ⊠ at (pos m)) in
-    let less : f <ℤ (q +ℤ pos 1) = lt-cancel m below in
-    omega (zarith, at q ⊞ at (pos 1))
+floor-least q z m m0 h = at-most (shrZ z m) q m (omega (zarith, floor-low z m m0))
 
 pub floor-unique : (q z : ℤ) (m : ℕ) → zero < m → (q *ℤ pos m) ≤ℤ z → z <ℤ (q *ℤ pos m +ℤ pos m) → q ≡ shrZ z m
 floor-unique q z m m0 l u = omega (zarith, floor-greatest q z m m0 l, floor-least q z m m0 u)
@@ -110,7 +108,7 @@ trunc-odd (pos zero) m = ap pos (zero-div m) ∙ sym (ap (λ (n : ℕ). negℤ (
 trunc-odd (pos (suc a)) m = refl
 trunc-odd (negsuc a) m = sym (negℤ-negℤ (pos (suc a / m)))
 
--- from zero up it is the floor, and with `trunc-odd` that says all of it
+-- from zero up it is the floor; `trunc-odd` says the rest
 pub trunc-floor : {z : ℤ} (m : ℕ) → pos 0 ≤ℤ z → quotZ z (pos m) ≡ shrZ z m
 trunc-floor {z = pos a} m h = refl
 trunc-floor {z = negsuc a} m h = absurd (h .le)

@@ -1,8 +1,8 @@
 -- The two quotients at numbers that show how they differ: 7 and −7 by 2, and 100 and −100 by 2^24.
 use mathlib.Core.Path.{_≡_, refl}
-use Prim.Native.Nat.{ℕ, _*_, _+_, _^_, _<_, _≤_}
+use Prim.Native.Nat.{_^_, _<_, _≤_}
 use native.Mathlib.Omega.{arith}
-use lib.IntN.{ℤ, pos, negsuc, _+ℤ_, _*ℤ_, _-ℤ_, negℤ, natAbs}
+use lib.IntN.{ℤ, pos, negsuc, _+ℤ_, _*ℤ_, _-ℤ_, negℤ}
 use lib.Signed.{_≤ℤ_, _<ℤ_, shrZ, quotZ, leZ-yes, ltZ-yes}
 use Rattle.whole.specs.Order.{Abs}
 use Rattle.whole.specs.Quotients.{Rounds, rounds-abs, rounds-neg, rounds-add, rounds-exact, rounds-bound, floor-low, floor-high, floor-rounds, floor-greatest, floor-least, floor-unique, floor-mono, floor-exact, trunc-odd, trunc-floor, trunc-low, trunc-high, trunc-rounds, trunc-mono, trunc-exact}

@@ -1,17 +1,17 @@
 -- What signed code asks: that a result fits its width (`SFits`), and that bits read back as the number they were written for.
 -- The rules are over any width. `signed` is for `search`; `zfits` is `zarith` with the ranges of the signed widths, for `omega`.
 use mathlib.Core.Path.{_≡_}
-use Prim.Native.Nat.{ℕ, zero, suc, _+_, _*_, _/_, _^_, _<_, _≤_, min, max}
+use Prim.Native.Nat.{ℕ, suc, _+_, _/_, _^_, _<_, _≤_, min, max}
 use native.Mathlib.Omega.{arith}
 use native.Mathlib.Nat.{mul-le-mul, div-le-self, lt-of-lt-of-le}
 use lib.Pow.{pow-add, pow-mono}
 use lib.IntN.{ℤ, pos, negsuc, _*ℤ_, natAbs}
-use lib.Signed.{mag, shrZ, quotZ, mag-shr}
+use lib.Signed.{shrZ, quotZ, mag-shr}
 use mir.Syntax.{Width, w32, w64}
 use mir.Val.{SFits, Fits, bits, hbits, toZ}
 use mir.ValLaws.{toZ-pos, sfits-le, fits-sub}
 use Rattle.whole.specs.Integers.{P, N, at, is-neg}
-use Rattle.whole.specs.Order.{zarith, Abs, natAbs-mul}
+use Rattle.whole.specs.Order.{zarith, natAbs-mul}
 
 pub fits-abs : {w : Width} (z : ℤ) → natAbs z < 2 ^ hbits w → SFits w z
 fits-abs (pos n) h = record { sfits = h }
@@ -23,7 +23,7 @@ scaled-fits {w} k m g t h l s =
     let e : natAbs (pos g *ℤ t) < 2 ^ (k + m) = omega (arith, natAbs-mul (pos g) t, mul-le-mul h l, pow-add 2 k m) in
     fits-abs (pos g *ℤ t) (lt-of-lt-of-le e (pow-mono s))
 
--- a quotient fits where its dividend does
+-- a quotient rounded down fits where its dividend does, whatever the divisor
 pub shr-fits : {w : Width} {z : ℤ} (m : ℕ) → SFits w z → SFits w (shrZ z m)
 shr-fits {z = z} m h = sfits-le {z = z} (mag-shr z m) h
 
@@ -34,8 +34,6 @@ toZ-narrow w n h l = toZ-pos w n (lt-of-lt-of-le (h .fits) (pow-mono l))
 -- as a rewrite rule it has to name its widths: a u32 cast to an i64
 pub toZ-u32 : (n : ℕ) → Fits w32 n → toZ w64 n ≡ pos n
 toZ-u32 n h = toZ-narrow w64 n h (omega arith)
-
-pub ruleset signed = (toZ-u32, shr-fits, fits-sub)
 
 -- ---- for `omega`
 
@@ -49,6 +47,11 @@ sfits-out {z = negsuc n} h = record { sfits = omega arith }
 
 pub ruleset zfits = (zarith, sfits-in, sfits-out)
 
+-- a quotient rounded toward zero fits too, whatever the divisor
 pub trunc-fits : {w : Width} {z : ℤ} (m : ℕ) → SFits w z → SFits w (quotZ z (pos m))
 trunc-fits {z = pos a} m h = omega (zfits, div-le-self a m)
 trunc-fits {z = negsuc a} m h = omega (zfits, is-neg (at (pos (suc a / m))), div-le-self (suc a) m)
+
+-- ---- for `search`
+
+pub ruleset signed = (toZ-u32, shr-fits, trunc-fits, fits-sub)

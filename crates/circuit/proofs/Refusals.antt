@@ -1,0 +1,180 @@
+-- Every number from 1 to 15, with its place, at an input that gets it, and beside a limit an input that just passes. One table, worked out.
+use Prim.Native.Nat.{ℕ}
+use mathlib.Core.Path.{_≡_, refl}
+use mathlib.Core.Bool.{Bool, true, false}
+use mathlib.Core.List.{List, [], _∷_, _++_, map}
+use lib.ListN.{set}
+use lib.IntN.{ℤ, pos, negsuc, negℤ}
+use lib.Ieee.{Float, nan, inf, fin}
+use Rattle.circuit.specs.Numbers.{Report, report, done, fails}
+use Rattle.circuit.specs.SetUp.{setUpReport}
+use Rattle.circuit.specs.Run.{freshWaves, ran}
+use Rattle.circuit.specs.File.{bytes, block, fileOf, readReport, writeReport, unused, zeros}
+use Rattle.circuit.specs.declared.Join.the-variants.{Series, Parallel}
+use Rattle.circuit.specs.declared.Part.{Part}
+use Rattle.circuit.specs.declared.Part.the-variants.{Blank}
+use Rattle.circuit.specs.declared.Column.{Column}
+use Rattle.circuit.specs.declared.CurveKind.{CurveKind}
+use Rattle.circuit.specs.declared.CurveKind.the-variants.{Unset, Single, Pair}
+use Rattle.circuit.specs.declared.Record.{Record}
+use Rattle.circuit.proofs.Working.{working}
+use Rattle.circuit.proofs.Circuits.{minus, ohms, input, resistor, capacitor, inductor, steady, joins, column, circuit, curveK, case1, case8, curved, call, fresh}
+
+-- ---- changed records
+
+atRate : ℕ → Record
+atRate n = record {
+  rate = n;
+  count = case1 .count;
+  tap = case1 .tap;
+  rows = case1 .rows;
+  kind = case1 .kind;
+  width = case1 .width;
+  columns = case1 .columns;
+  resistance = case1 .resistance;
+}
+
+counting : ℕ → Record
+counting n = record {
+  rate = case1 .rate;
+  count = n;
+  tap = case1 .tap;
+  rows = case1 .rows;
+  kind = case1 .kind;
+  width = case1 .width;
+  columns = case1 .columns;
+  resistance = case1 .resistance;
+}
+
+-- parts at 48,000 Hz with curve K and a curve resistance
+parts : List Part → ℕ → Float → Record
+parts ps tap q = circuit ps tap Pair curveK q
+
+-- two resistances in parallel with the input first
+pair : Float → Float → Float → Record
+pair a b q = parts (input a ∷ resistor b ∷ joins Parallel 0 1 ∷ []) 1 q
+
+-- input and four steady sources of 2^24 µV in series: the top's wave is five times 2^24
+stack : Record
+stack =
+    parts
+    (input (ohms 1000)
+    ∷ steady (ohms 1000) (pos 16777216)
+    ∷ joins Series 0 1
+    ∷ steady (ohms 1000) (minus 16777216)
+    ∷ joins Series 2 3
+    ∷ steady (ohms 1000) (pos 16777216)
+    ∷ joins Series 4 5
+    ∷ steady (ohms 1000) (minus 16777216)
+    ∷ joins Series 6 7
+    ∷ [])
+    0 (ohms 5000)
+
+sampling : ℤ → Report
+sampling x = fresh stack (x ∷ []) .handedBack
+
+-- what a call hands back, and what is left of it
+record Line : Type 0 where
+  found : Report
+  paper : Report
+
+abbrev gives : Report → Report → Line
+gives f p = record { found = f; paper = p }
+
+-- numbers 1 to 4 of a file, and 1 of a buffer to write
+files : List Line
+files =
+    gives (readReport []) (report 1 0)
+    ∷ gives (readReport (zeros 1537)) (report 1 0)
+    ∷ gives (writeReport (record { circuit = case1; buffer = zeros 1535 })) (report 1 0)
+    ∷ gives (writeReport (record { circuit = case1; buffer = zeros 1536 })) done
+    ∷ gives (readReport (block 0 [] ++ zeros 512 ++ zeros 512)) (report 2 1)
+    ∷ gives (readReport (block 0 [] ++ block 1 [] ++ block 2 [])) (report 3 0)
+    ∷ gives (readReport (block 0 (bytes 2 1) ++ block 1 [] ++ block 2 [])) (report 4 0)
+    ∷ []
+
+files-refused : map (λ (l : Line). l .found) files ≡ map (λ (l : Line). l .paper) files
+unfolding working files
+files-refused = refl
+
+-- case 1's file with one byte that nothing uses set: of the heading, of a resistor's first child, fourth byte and microvolts, of an adaptor's
+-- value, of a blank row's kind and child, and after the rows and the columns; and a curve's kind that is none
+spoiled : List ℕ
+spoiled = 6 ∷ 12 ∷ 507 ∷ 529 ∷ 531 ∷ 532 ∷ 559 ∷ 992 ∷ 993 ∷ 1008 ∷ 1520 ∷ []
+
+spoiled-refused : map (λ (at : ℕ). unused (set (fileOf case1) at 128)) spoiled ≡ map (λ (at : ℕ). fails 0) spoiled
+unfolding working spoiled
+spoiled-refused = refl
+
+-- numbers 4 to 11 of a record
+records : List Line
+records =
+    gives (setUpReport (counting 32)) (report 4 0)
+    ∷ gives (setUpReport (counting 0)) (report 4 0)
+    ∷ gives (setUpReport (counting 2)) (report 4 0)
+    ∷ gives (setUpReport (parts (input (ohms 1000) ∷ Blank ∷ joins Parallel 0 1 ∷ []) 0 (ohms 750))) (report 4 0)
+    ∷ gives (setUpReport (curved Unset curveK)) (report 4 0)
+    ∷ gives (setUpReport (curved Pair (column (pos 0) (pos 0) ∷ []))) (report 4 0)
+    ∷ gives (setUpReport (atRate 7999)) (report 5 0)
+    ∷ gives (setUpReport (atRate 8000)) done
+    ∷ gives (setUpReport (atRate 768000)) done
+    ∷ gives (setUpReport (atRate 768001)) (report 5 0)
+    -- children not lower; a row used twice and one not at all; an even count; no input, two inputs; a tap on an adaptor and past the rows
+    ∷ gives (setUpReport (parts (input (ohms 1000) ∷ resistor (ohms 3000) ∷ joins Parallel 0 2 ∷ []) 1 (ohms 750))) (report 6 2)
+    ∷ gives (setUpReport (parts (input (ohms 1000) ∷ resistor (ohms 3000) ∷ joins Parallel 0 255 ∷ []) 1 (ohms 750))) (report 6 2)
+    ∷ gives (setUpReport (parts (input (ohms 1000) ∷ resistor (ohms 3000) ∷ joins Parallel 0 0 ∷ []) 1 (ohms 750))) (report 6 0)
+    ∷ gives (setUpReport (parts (input (ohms 1000) ∷ resistor (ohms 3000) ∷ []) 1 (ohms 750))) (report 6 0)
+    ∷ gives (setUpReport (parts (resistor (ohms 1000) ∷ resistor (ohms 3000) ∷ joins Parallel 0 1 ∷ []) 1 (ohms 750))) (report 6 255)
+    ∷ gives (setUpReport (parts (input (ohms 1000) ∷ input (ohms 3000) ∷ joins Parallel 0 1 ∷ []) 1 (ohms 750))) (report 6 255)
+    ∷ gives (setUpReport (parts (input (ohms 1000) ∷ resistor (ohms 3000) ∷ joins Parallel 0 1 ∷ []) 2 (ohms 750))) (report 6 255)
+    ∷ gives (setUpReport (parts (input (ohms 1000) ∷ resistor (ohms 3000) ∷ joins Parallel 0 1 ∷ []) 3 (ohms 750))) (report 6 255)
+    -- both zeros, below zero, no number, infinite; steady microvolts
+    ∷ gives (setUpReport (pair (ohms 1000) (ohms 0) (ohms 750))) (report 7 1)
+    ∷ gives (setUpReport (pair (fin true 0 (pos 0)) (ohms 3000) (ohms 750))) (report 7 0)
+    ∷ gives (setUpReport (pair (fin true 1 (pos 0)) nan (ohms 750))) (report 7 0)
+    ∷ gives (setUpReport (pair (ohms 1000) nan (ohms 750))) (report 7 1)
+    ∷ gives (setUpReport (pair (ohms 1000) (inf false) (ohms 750))) (report 7 1)
+    ∷ gives (setUpReport (parts (input (ohms 1000) ∷ steady (ohms 3000) (minus 16777217) ∷ joins Parallel 0 1 ∷ []) 1 (ohms 750))) (report 7 1)
+    ∷ gives (setUpReport (parts (input (ohms 1000) ∷ steady (ohms 3000) (minus 16777216) ∷ joins Parallel 0 1 ∷ []) 1 (ohms 750))) done
+    -- 2^31 Ω; a subnormal; an inductor that overflows; the limits themselves
+    ∷ gives (setUpReport (pair (ohms 1000) (ohms 2147483648) (ohms 750))) (report 8 1)
+    ∷ gives (setUpReport (pair (fin false 1 (negsuc 1073)) (ohms 3000) (ohms 750))) (report 8 0)
+    ∷ gives (setUpReport (parts (input (ohms 250) ∷ inductor (fin false 1 (pos 1023)) ∷ joins Parallel 0 1 ∷ []) 1 (ohms 750))) (report 8 1)
+    ∷ gives (setUpReport (parts (input (ohms 1073741824) ∷ []) 255 (ohms 1073741824))) done
+    ∷ gives (setUpReport (parts (input (fin false 1 (negsuc 9)) ∷ []) 0 (fin false 1 (negsuc 9)))) done
+    -- 2^24 / (2^30 + 1), below one part
+    ∷ gives (setUpReport (pair (ohms 1073741824) (ohms 1) (ohms 1))) (report 9 2)
+    -- x too large, x that does not rise, a pair that does not start at (0, 0), a single that misses it
+    ∷ gives (setUpReport (curved Pair (column (pos 0) (pos 0) ∷ column (pos 67108865) (pos 0) ∷ []))) (report 10 1)
+    ∷ gives (setUpReport (curved Pair (column (pos 0) (pos 0) ∷ column (pos 67108864) (pos 0) ∷ []))) done
+    ∷ gives (setUpReport (curved Pair (column (pos 0) (pos 0) ∷ column (pos 5) (pos 1) ∷ column (pos 5) (pos 1) ∷ []))) (report 10 2)
+    ∷ gives (setUpReport (curved Pair (column (pos 1) (pos 0) ∷ column (pos 5) (pos 1) ∷ []))) (report 10 0)
+    ∷ gives (setUpReport (curved Single (column (minus 3) (minus 1) ∷ column (pos 5) (pos 1) ∷ []))) (report 10 0)
+    ∷ gives (setUpReport (curved Single (column (minus 3) (minus 1) ∷ column (pos 0) (pos 0) ∷ []))) done
+    -- 751 Ω for a port of 750 Ω; no number
+    ∷ gives (setUpReport (pair (ohms 1000) (ohms 3000) (ohms 751))) (report 11 0)
+    ∷ gives (setUpReport (pair (ohms 1000) (ohms 3000) nan)) (report 11 0)
+    ∷ []
+
+records-refused : map (λ (l : Line). l .found) records ≡ map (λ (l : Line). l .paper) records
+unfolding working records atRate counting parts pair
+records-refused = refl
+
+-- numbers 12 to 15 of a run
+runs : List Line
+runs =
+    -- a wave at a resistor, a reactive row's past the limit and at it, a blank row's
+    gives (ran (call case1 (set freshWaves 1 (pos 1)) []) .handedBack) (report 12 1)
+    ∷ gives (ran (call case8 (set freshWaves 1 (minus 67108865)) []) .handedBack) (report 12 1)
+    ∷ gives (ran (call case8 (set freshWaves 1 (minus 67108864)) []) .handedBack) done
+    ∷ gives (ran (call case8 (set freshWaves 30 (pos 1)) []) .handedBack) (report 12 30)
+    ∷ gives (ran (record { circuit = case1; waves = freshWaves; input = pos 1 ∷ []; output = [] }) .handedBack) (report 13 0)
+    ∷ gives (fresh case1 (pos 16777216 ∷ []) .handedBack) done
+    ∷ gives (fresh case1 (pos 1 ∷ pos 2 ∷ minus 16777217 ∷ []) .handedBack) (report 14 2)
+    -- five sources that add up, and four that do not pass the limit
+    ∷ gives (sampling (pos 16777216)) (report 15 0)
+    ∷ []
+
+runs-refused : map (λ (l : Line). l .found) runs ≡ map (λ (l : Line). l .paper) runs
+unfolding working runs stack sampling parts fresh
+runs-refused = refl
