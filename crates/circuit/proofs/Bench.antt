@@ -16,8 +16,7 @@ use Rattle.circuit.specs.Sample.{unrounded, output}
 use Rattle.circuit.specs.Run.{freshWaves, ran, Ran}
 use Rattle.circuit.specs.File.{bytes, checkOf, zeros}
 use Rattle.circuit.specs.Text.{text}
-use Rattle.circuit.specs.Listing.{listing}
-use Rattle.circuit.specs.File.{fileOf}
+use Rattle.circuit.specs.Listing.{acceptedLines}
 use Rattle.circuit.specs.declared.Join.the-variants.{Series, Parallel}
 use Rattle.circuit.specs.declared.CurveKind.the-variants.{Single, Pair}
 use Rattle.circuit.specs.declared.Prepared.{Prepared}
@@ -83,7 +82,7 @@ unfolding working
 case-4-unrounded = record { same = refl }
 
 -- the listing of case 1, whole
-case-1-listed : listing (fileOf case1) ≡ text "rows 3 tap 1\n0 input -\n1 resistor -\n2 parallel 12582912\n"
+case-1-listed : acceptedLines case1 ≡ text "rows 3 tap 1\n0 input -\n1 resistor -\n2 parallel 12582912\n"
 unfolding working
 case-1-listed = refl
 

@@ -9,7 +9,7 @@ use lib.Ieee.{Float, nan, inf, fin}
 use Rattle.circuit.specs.Numbers.{Report, report, done, fails}
 use Rattle.circuit.specs.SetUp.{setUpReport}
 use Rattle.circuit.specs.Run.{freshWaves, ran}
-use Rattle.circuit.specs.File.{bytes, block, fileOf, readReport, writeReport, unused, zeros}
+use Rattle.circuit.specs.File.{bytes, block, readReport, writeReport, clearRow, unused, zeros}
 use Rattle.circuit.specs.declared.Join.the-variants.{Series, Parallel}
 use Rattle.circuit.specs.declared.Part.{Part}
 use Rattle.circuit.specs.declared.Part.the-variants.{Blank}
@@ -97,14 +97,35 @@ files-refused : map (λ (l : Line). l .found) files ≡ map (λ (l : Line). l .p
 unfolding working files
 files-refused = refl
 
--- case 1's file with one byte that nothing uses set: of the heading, of a resistor's first child, fourth byte and microvolts, of an adaptor's
--- value, of a blank row's kind and child, and after the rows and the columns; and a curve's kind that is none
+-- a file of blank rows, all zeros, with one byte that nothing uses set: in the heading, in a blank row, after the rows, after the columns; and
+-- a row's kind that is none
 spoiled : List ℕ
-spoiled = 6 ∷ 12 ∷ 507 ∷ 529 ∷ 531 ∷ 532 ∷ 559 ∷ 992 ∷ 993 ∷ 1008 ∷ 1520 ∷ []
+spoiled = 6 ∷ 993 ∷ 1008 ∷ 1520 ∷ 992 ∷ []
 
-spoiled-refused : map (λ (at : ℕ). unused (set (fileOf case1) at 128)) spoiled ≡ map (λ (at : ℕ). fails 0) spoiled
+spoiled-refused : map (λ (at : ℕ). unused (set (zeros 1536) at 128)) spoiled ≡ map (λ (at : ℕ). fails 0) spoiled
 unfolding working spoiled
 spoiled-refused = refl
+
+-- a row of a kind with all its other bytes set: which of them the kind uses
+row : ℕ → List ℕ → Bool
+row kind others = clearRow kind 0 (kind ∷ others)
+
+-- each kind with the bytes that it uses, and then with one more: a resistor's first child, an input's fourth byte, a capacitor's microvolts, a
+-- steady source's second child, an adaptor's microvolts, and −0.0 for an adaptor's value
+rows-spoiled :
+    row 1 (0 ∷ 0 ∷ 0 ∷ 0 ∷ 0 ∷ 0 ∷ 0 ∷ 1 ∷ 1 ∷ 1 ∷ 1 ∷ 1 ∷ 1 ∷ 1 ∷ 1 ∷ [])
+    ∷ row 5 (0 ∷ 0 ∷ 0 ∷ 1 ∷ 1 ∷ 1 ∷ 1 ∷ 1 ∷ 1 ∷ 1 ∷ 1 ∷ 1 ∷ 1 ∷ 1 ∷ 1 ∷ [])
+    ∷ row 7 (1 ∷ 1 ∷ 0 ∷ 0 ∷ 0 ∷ 0 ∷ 0 ∷ 0 ∷ 0 ∷ 0 ∷ 0 ∷ 0 ∷ 0 ∷ 0 ∷ 0 ∷ [])
+    ∷ row 1 (1 ∷ 0 ∷ 0 ∷ 0 ∷ 0 ∷ 0 ∷ 0 ∷ 1 ∷ 1 ∷ 1 ∷ 1 ∷ 1 ∷ 1 ∷ 1 ∷ 1 ∷ [])
+    ∷ row 4 (0 ∷ 0 ∷ 1 ∷ 0 ∷ 0 ∷ 0 ∷ 0 ∷ 1 ∷ 1 ∷ 1 ∷ 1 ∷ 1 ∷ 1 ∷ 1 ∷ 1 ∷ [])
+    ∷ row 2 (0 ∷ 0 ∷ 0 ∷ 1 ∷ 0 ∷ 0 ∷ 0 ∷ 1 ∷ 1 ∷ 1 ∷ 1 ∷ 1 ∷ 1 ∷ 1 ∷ 1 ∷ [])
+    ∷ row 5 (0 ∷ 1 ∷ 0 ∷ 1 ∷ 1 ∷ 1 ∷ 1 ∷ 1 ∷ 1 ∷ 1 ∷ 1 ∷ 1 ∷ 1 ∷ 1 ∷ 1 ∷ [])
+    ∷ row 6 (1 ∷ 1 ∷ 0 ∷ 0 ∷ 0 ∷ 0 ∷ 1 ∷ 0 ∷ 0 ∷ 0 ∷ 0 ∷ 0 ∷ 0 ∷ 0 ∷ 0 ∷ [])
+    ∷ row 7 (1 ∷ 1 ∷ 0 ∷ 0 ∷ 0 ∷ 0 ∷ 0 ∷ 0 ∷ 0 ∷ 0 ∷ 0 ∷ 0 ∷ 0 ∷ 0 ∷ 128 ∷ [])
+    ∷ []
+    ≡ true ∷ true ∷ true ∷ false ∷ false ∷ false ∷ false ∷ false ∷ false ∷ []
+unfolding working row
+rows-spoiled = refl
 
 -- numbers 4 to 11 of a record
 records : List Line

@@ -1,14 +1,13 @@
 -- What acceptance gives: the facts of a record that set-up does not refuse, in the form that later proofs take them.
-use Prim.Native.Nat.{ℕ, zero, suc, _+_, _-_, _<_, _≤_}
+use Prim.Native.Nat.{ℕ, suc, _+_, _<_, _≤_}
 use mathlib.Core.Path.{_≡_}
 use mathlib.Core.Logic.{_⊎_}
-use mathlib.Core.Bool.{Bool, true, false}
+use mathlib.Core.Bool.{false}
 use mathlib.Core.List.{List, [], _∷_}
 use lib.Dec.{T}
-use lib.ListN.{getD, take}
-use lib.IntN.{ℤ, pos, _-ℤ_, natAbs}
+use lib.ListN.{length, getD, take}
+use lib.IntN.{pos, _-ℤ_, natAbs}
 use lib.Signed.{_<ℤ_}
-use lib.Ieee.{Float}
 use Rattle.circuit.specs.Record.{partAt, isBlank, isLeaf, inputs, soundPart, Tree, leaf, adaptor, treeOf, treeAt, top}
 use Rattle.circuit.specs.SetUp.{ratioAt, resistanceAt, inRange}
 use Rattle.circuit.specs.Sample.{holds}
@@ -18,6 +17,11 @@ use Rattle.circuit.specs.declared.Column.{Column}
 use Rattle.circuit.specs.declared.CurveKind.{CurveKind}
 use Rattle.circuit.specs.declared.CurveKind.the-variants.{Unset, Single, Pair}
 use Rattle.circuit.specs.declared.Record.{Record}
+
+-- the arrays have the lengths that the record's type gives them
+pub record Sized (r : Record) : Type 0 where
+  pub rows : length (r .rows) ≡ 31
+  pub columns : length (r .columns) ≡ 62
 
 -- ---- rows
 

@@ -1,0 +1,137 @@
+-- Laws of judging: a list of rules is tried in order, so it is decided by the first that fails. Where every number is above 0, number 0 says
+-- that every rule passes. Each is by induction on the list; set-up's ten rules are the instance at the end.
+use Prim.Native.Nat.{ℕ, _<_}
+use native.Mathlib.Nat.{lt-irrefl}
+use lib.Dec.{lit<}
+use mathlib.Core.Path.{_≡_, refl, sym, ap, _∙_, subst}
+use mathlib.Core.List.{List, [], _∷_, _++_}
+use Rattle.circuit.specs.Numbers.{Report, Verdict, passes, fails, Rule, report, done, judge, of}
+use Rattle.circuit.specs.Record.{form, rate, childrenLower, usedOnce, inputAndTap, values}
+use Rattle.circuit.specs.Curve.{columnRule}
+use Rattle.circuit.specs.SetUp.{portResistances, ratios, curveResistance, setUpRules, setUpReport}
+use Rattle.circuit.specs.declared.Record.{Record}
+
+-- every rule passes
+abbrev pub Pass : {A : Type 0} → List (Rule A) → A → Type 0
+Pass [] a = Unit {0}
+Pass (r ∷ rs) a = (r .check a ≡ passes) × Pass rs a
+
+-- every number is above 0
+abbrev pub Numbered : {A : Type 0} → List (Rule A) → Type 0
+Numbered [] = Unit {0}
+Numbered (r ∷ rs) = (0 < r .number) × Numbered rs
+
+module _ {A : Type 0} where
+  -- ---- the first rule
+
+  pub judge-pass : (r : Rule A) (rs : List (Rule A)) (a : A) → r .check a ≡ passes → judge (r ∷ rs) a ≡ judge rs a
+  unfolding judge
+  judge-pass r rs a e = rw e refl
+
+  pub judge-fail : (r : Rule A) (rs : List (Rule A)) (a : A) (p : ℕ) → r .check a ≡ fails p → judge (r ∷ rs) a ≡ report (r .number) p
+  unfolding judge
+  judge-fail r rs a p e = rw e refl
+
+  -- ---- some rules, then more
+
+  pub judge-rest : (rs ss : List (Rule A)) (a : A) → Pass rs a → judge (rs ++ ss) a ≡ judge ss a
+  judge-rest [] ss a h = refl
+  judge-rest (r ∷ rs) ss a h = judge-pass r (rs ++ ss) a (h .0) ∙ judge-rest rs ss a (h .1)
+
+  pub pass-done : (rs : List (Rule A)) (a : A) → Pass rs a → judge rs a ≡ done
+  unfolding judge
+  pass-done [] a h = refl
+  pass-done (r ∷ rs) a h = judge-pass r rs a (h .0) ∙ pass-done rs a (h .1)
+
+  -- the rule that decides, after those that pass
+  pub judge-at : (rs : List (Rule A)) (r : Rule A) (ss : List (Rule A)) (a : A) (p : ℕ) → Pass rs a → r .check a ≡ fails p
+      → judge (rs ++ r ∷ ss) a ≡ report (r .number) p
+  judge-at rs r ss a p h e = judge-rest rs (r ∷ ss) a h ∙ judge-fail r ss a p e
+
+  -- a number above 0 is not changed by more rules
+  pub judge-stop : (rs ss : List (Rule A)) (a : A) → 0 < judge rs a .number → judge (rs ++ ss) a ≡ judge rs a
+  unfolding judge
+  judge-stop [] ss a h = absurd (lt-irrefl 0 h)
+  judge-stop (r ∷ rs) ss a h = by (r .check a) refl (judge-stop rs ss a)
+    where
+      by : (v : Verdict) → r .check a ≡ v → (0 < judge rs a .number → judge (rs ++ ss) a ≡ judge rs a) → judge (r ∷ rs ++ ss) a ≡ judge (r ∷ rs) a
+      by passes e later = judge-pass r (rs ++ ss) a e ∙ later (rw (judge-pass r rs a e) at h) ∙ sym (judge-pass r rs a e)
+      by (fails p) e later = judge-fail r (rs ++ ss) a p e ∙ sym (judge-fail r rs a p e)
+
+  -- ---- number 0
+
+  pub zero-pass : (rs : List (Rule A)) (a : A) → Numbered rs → judge rs a .number ≡ 0 → Pass rs a
+  zero-pass [] a n e = tt
+  zero-pass (r ∷ rs) a n e = by (r .check a) refl (zero-pass rs a (n .1))
+    where
+      by : (v : Verdict) → r .check a ≡ v → (judge rs a .number ≡ 0 → Pass rs a) → Pass (r ∷ rs) a
+      by passes q later = (q, later (ap (λ s. s .number) (sym (judge-pass r rs a q)) ∙ e))
+      by (fails p) q later = absurd (lt-irrefl 0 (subst (λ (k : ℕ). 0 < k) (ap (λ s. s .number) (sym (judge-fail r rs a p q)) ∙ e) (n .0)))
+
+  pub zero-done : (rs : List (Rule A)) (a : A) → Numbered rs → judge rs a .number ≡ 0 → judge rs a ≡ done
+  zero-done rs a n e = pass-done rs a (zero-pass rs a n e)
+
+-- ---- the same rules, of what `f` makes
+
+module _ {A B : Type 0} (f : B → A) where
+  pub judge-of : (rs : List (Rule A)) (b : B) → judge (of f rs) b ≡ judge rs (f b)
+  unfolding judge of
+  judge-of [] b = refl
+  judge-of (r ∷ rs) b =
+      ap {A = Report} (λ s. elim (r .check (f b)) as (λ v. Report) [ passes ↦ s | fails p ↦ report (r .number) p ]) (judge-of rs b)
+
+  pub pass-of : (rs : List (Rule A)) (b : B) → Pass rs (f b) → Pass (of f rs) b
+  unfolding of
+  pass-of [] b h = tt
+  pass-of (r ∷ rs) b h = (h .0, pass-of rs b (h .1))
+
+-- ---- set-up's rules
+
+pub record Passed (r : Record) : Type 0 where
+  pub form : form r ≡ passes
+  pub rate : rate r ≡ passes
+  pub childrenLower : childrenLower r ≡ passes
+  pub usedOnce : usedOnce r ≡ passes
+  pub inputAndTap : inputAndTap r ≡ passes
+  pub values : values r ≡ passes
+  pub portResistances : portResistances r ≡ passes
+  pub ratios : ratios r ≡ passes
+  pub columnRule : columnRule r ≡ passes
+  pub curveResistance : curveResistance r ≡ passes
+
+pub set-up-numbered : Numbered setUpRules
+unfolding setUpRules
+set-up-numbered = (lit< tt, (lit< tt, (lit< tt, (lit< tt, (lit< tt, (lit< tt, (lit< tt, (lit< tt, (lit< tt, (lit< tt, tt))))))))))
+
+pub pass-passed : (r : Record) → Pass setUpRules r → Passed r
+unfolding setUpRules
+pass-passed r h = record {
+  form = h .0;
+  rate = h .1 .0;
+  childrenLower = h .1 .1 .0;
+  usedOnce = h .1 .1 .1 .0;
+  inputAndTap = h .1 .1 .1 .1 .0;
+  values = h .1 .1 .1 .1 .1 .0;
+  portResistances = h .1 .1 .1 .1 .1 .1 .0;
+  ratios = h .1 .1 .1 .1 .1 .1 .1 .0;
+  columnRule = h .1 .1 .1 .1 .1 .1 .1 .1 .0;
+  curveResistance = h .1 .1 .1 .1 .1 .1 .1 .1 .1 .0;
+}
+
+pub passed-pass : (r : Record) → Passed r → Pass setUpRules r
+unfolding setUpRules
+passed-pass r h = (h .form, (h .rate, (h .childrenLower, (h .usedOnce, (h .inputAndTap, (h .values, (h .portResistances, (h .ratios, (h .columnRule, (h .curveResistance, tt))))))))))
+
+pub zero-passed : (r : Record) → setUpReport r .number ≡ 0 → Passed r
+unfolding setUpReport
+zero-passed r e = pass-passed r (zero-pass setUpRules r set-up-numbered e)
+
+pub done-passed : (r : Record) → setUpReport r ≡ done → Passed r
+done-passed r e = zero-passed r (ap (λ s. s .number) e)
+
+pub passed-done : (r : Record) → Passed r → setUpReport r ≡ done
+unfolding setUpReport
+passed-done r h = pass-done setUpRules r (passed-pass r h)
+
+pub set-up-done : (r : Record) → setUpReport r .number ≡ 0 → setUpReport r ≡ done
+set-up-done r e = passed-done r (zero-passed r e)

@@ -1,0 +1,12 @@
+pub mod Line
+pub mod Counting
+pub mod Judging
+pub mod Trees
+pub mod Gentle
+pub mod Drawn
+pub mod Adaptors
+pub mod Shape
+pub mod Leaves
+pub mod Columns
+pub mod Accepting
+pub mod ColumnRule

@@ -1,0 +1,2 @@
+pub mod Straying
+pub mod Bound
