@@ -1,17 +1,21 @@
--- How near an adaptor's whole waves stay to the unrounded ones, for a ratio g of any width W. Every wave that an adaptor sends, up or
--- down, mixes two sums of the waves it gets, with the weights g and W − g, and no wave stands twice in a sum. So what a rounded wave
--- strays by is at most what the waves it is made from stray by together, and its own rounding.
-use Prim.Native.Nat.{ℕ, zero, _+_, _<_, _≤_}
+-- What an adaptor's whole waves stray by, for a ratio g of any width W. Every wave that an adaptor sends mixes the waves that it gets with
+-- the weights g and W − g. Going up, the errors of its children add up at most, and its own rounding adds one. Coming down, a child gets
+-- back for its own error no more than that error; its sibling's error and the adaptor's rounding count twice at most, once on the way
+-- to the child and once by way of what stands above.
+use Prim.Native.Nat.{ℕ, zero, _+_, _-_, _*_, _<_, _≤_}
 use native.Mathlib.Omega.{arith}
 use mathlib.Core.Path.{refl}
 use mathlib.Core.List.{List, [], _∷_}
 use lib.IntN.{ℤ, pos, _+ℤ_, _-ℤ_, _*ℤ_, negℤ}
-use Rattle.whole.specs.Ring.{Exp, var, _⊕_, _⊗_, _⊝_}
+use Rattle.whole.specs.Integers.{P, N, at, _⊟_}
+use Rattle.whole.specs.Order.{zarith, Abs, abs-as}
+use Rattle.whole.specs.Quotients.{Rounds}
+use Rattle.whole.specs.Ring.{Exp, var, _⊕_, _⊗_, _⊝_, ⊖}
 use Rattle.whole.specs.Mirror.{Quot, parts, fracE, overE, wholeE, _⊕F_, ⊖F, _⊝F_, timesE, by}
 use Rattle.whole.specs.Fraction.{Fraction, over, whole, _+F_, negF, _-F_, times, _≈_}
-use Rattle.whole.specs.Fractions.{≈-sym, ≈-sub}
-use Rattle.whole.specs.Quotients.{Rounds}
-use Rattle.whole.specs.Nearness.{Small, small-le, small-as, Near, near-le, near-as, near-whole, near-rounds, near-neg, near-add, near-sub, near-apart, near-move, apart-neg, apart-add, mixture, mixtureE, apart-mix}
+use Rattle.whole.specs.Fractions.{≈-refl, ≈-neg, sum-comm}
+use Rattle.whole.specs.Nearness.{Small, small-le, small-as, small-add, small-neg, small-times, Near, near-as, near-whole, near-rounds, near-add, near-sub, near-apart}
+use Rattle.laws.proofs.Reflectance.{Reflects, reflects-as, reflects-rounded, parallel-child, series-child, error, error-near, Echo}
 
 -- ---- what adaptors send, unrounded
 
@@ -24,130 +28,162 @@ module _ (g W : ℕ) (w : zero < W) where
   abbrev pub parted : Fraction → Fraction → Fraction → Fraction
   parted p1 p2 p3 = p1 -F times (pos g) W w (p1 +F p2 +F p3)
 
--- ---- each of them is a mixture
+difference-undo : (p q : Fraction) → p -F q +F q ≈ p
+difference-undo p q = record { same = by (parts (p ∷ q ∷ []) []) (fracE 0 ⊝F fracE 1 ⊕F fracE 1) (fracE 0) refl }
 
--- for the solver: the ratio g / W stands before the waves
+-- errors of a sum less a third
+less-errors : (a b c : ℤ) (p q r : Fraction) → error a p +F error b q -F error c r ≈ error (a +ℤ b -ℤ c) (p +F q -F r)
+less-errors a b c p q r =
+    let A = var 6 in let B = var 7 in let C = var 8 in
+    record {
+      same = by (parts (p ∷ q ∷ r ∷ []) (a ∷ b ∷ c ∷ []))
+          (wholeE A ⊝F fracE 0 ⊕F (wholeE B ⊝F fracE 1) ⊝F (wholeE C ⊝F fracE 2)) (wholeE (A ⊕ B ⊝ C) ⊝F (fracE 0 ⊕F fracE 1 ⊝F fracE 2)) refl;
+    }
+
+-- of a minus sum
+minus-errors : (a b : ℤ) (p q : Fraction) → error (negℤ (a +ℤ b)) (negF (p +F q)) ≈ negF (error a p +F error b q)
+minus-errors a b p q =
+    let A = var 4 in let B = var 5 in
+    record {
+      same = by (parts (p ∷ q ∷ []) (a ∷ b ∷ []))
+          (wholeE (⊖ (A ⊕ B)) ⊝F ⊖F (fracE 0 ⊕F fracE 1)) (⊖F (wholeE A ⊝F fracE 0 ⊕F (wholeE B ⊝F fracE 1))) refl;
+    }
+
+-- ---- a rounded quotient makes a wave within one of the unrounded, at the same whole waves
+
+-- for the solver, which has the ratio g / W before the waves
 abbrev G : Exp
 G = var 0
 
 abbrev K : Exp
 K = var 1
 
-abbrev w1 : Quot
-w1 = fracE 1
+abbrev joinedE : Quot → Quot → Quot
+joinedE p1 p2 = p2 ⊕F timesE G K (p1 ⊝F p2)
 
-abbrev w2 : Quot
-w2 = fracE 2
-
-abbrev w3 : Quot
-w3 = fracE 3
-
-abbrev joinedE : Quot
-joinedE = w2 ⊕F timesE G K (w1 ⊝F w2)
-
-abbrev partedE : Quot
-partedE = w1 ⊝F timesE G K (w1 ⊕F w2 ⊕F w3)
-
-module _ (g W : ℕ) (w : zero < W) (p1 p2 : Fraction) where
-  joined-mixes : joined g W w p1 p2 ≈ mixture g W w p1 p2
-  joined-mixes = record { same = by (parts (over (pos g) W w ∷ p1 ∷ p2 ∷ []) []) joinedE (mixtureE G K w1 w2) refl }
-
-  module _ (p3 : Fraction) where
-    abbrev env : List ℤ
-    env = parts (over (pos g) W w ∷ p1 ∷ p2 ∷ p3 ∷ []) []
-
-    parallel-first-mixes : joined g W w p1 p2 +F p3 -F p1 ≈ mixture g W w p3 (p2 -F p1 +F p3)
-    parallel-first-mixes = record { same = by env (joinedE ⊕F w3 ⊝F w1) (mixtureE G K w3 (w2 ⊝F w1 ⊕F w3)) refl }
-
-    parallel-second-mixes : joined g W w p1 p2 +F p3 -F p2 ≈ mixture g W w (p1 -F p2 +F p3) p3
-    parallel-second-mixes = record { same = by env (joinedE ⊕F w3 ⊝F w2) (mixtureE G K (w1 ⊝F w2 ⊕F w3) w3) refl }
-
-    series-first-mixes : parted g W w p1 p2 p3 ≈ mixture g W w (negF (p2 +F p3)) p1
-    series-first-mixes = record { same = by env partedE (mixtureE G K (⊖F (w2 ⊕F w3)) w1) refl }
-
-    series-second-mixes : negF (p3 +F parted g W w p1 p2 p3) ≈ mixture g W w p2 (negF (p1 +F p3))
-    series-second-mixes = record { same = by env (⊖F (w3 ⊕F partedE)) (mixtureE G K w2 (⊖F (w1 ⊕F w3))) refl }
-
--- ---- a rounded quotient makes a wave within one of the unrounded, at the same whole waves
+abbrev partedE : Quot → Quot → Quot → Quot
+partedE p1 p2 p3 = p1 ⊝F timesE G K (p1 ⊕F p2 ⊕F p3)
 
 module _ (g W : ℕ) (w : zero < W) (a1 a2 : ℤ) {k : ℤ} where
   pub joined-rounds : Rounds k (pos g *ℤ (a1 -ℤ a2)) W → Near 1 (a2 +ℤ k) (joined g W w (whole a1) (whole a2))
   joined-rounds h =
       let A1 = wholeE (var 2) in let A2 = wholeE (var 3) in
-      near-as (record {
-        same = by (pos g ∷ pos W ∷ a1 ∷ a2 ∷ []) (A2 ⊕F overE (G ⊗ (var 2 ⊝ var 3)) K) (A2 ⊕F timesE G K (A1 ⊝F A2)) refl;
-      })
+      near-as (record { same = by (pos g ∷ pos W ∷ a1 ∷ a2 ∷ []) (A2 ⊕F overE (G ⊗ (var 2 ⊝ var 3)) K) (joinedE A1 A2) refl })
       (near-add (near-whole a2) (near-rounds w h))
 
   pub parted-rounds : (a3 : ℤ) → Rounds k (pos g *ℤ (a1 +ℤ a2 +ℤ a3)) W → Near 1 (a1 -ℤ k) (parted g W w (whole a1) (whole a2) (whole a3))
   parted-rounds a3 h =
       let A1 = wholeE (var 2) in let A2 = wholeE (var 3) in let A3 = wholeE (var 4) in
-      near-as (record {
-        same = by (pos g ∷ pos W ∷ a1 ∷ a2 ∷ a3 ∷ [])
-            (A1 ⊝F overE (G ⊗ (var 2 ⊕ var 3 ⊕ var 4)) K) (A1 ⊝F timesE G K (A1 ⊕F A2 ⊕F A3)) refl;
-      })
+      near-as (record { same = by (pos g ∷ pos W ∷ a1 ∷ a2 ∷ a3 ∷ []) (A1 ⊝F overE (G ⊗ (var 2 ⊕ var 3 ⊕ var 4)) K) (partedE A1 A2 A3) refl })
       (near-sub (near-whole a1) (near-rounds w h))
 
--- ---- and near the unrounded wave of waves that it is near to
+-- ---- up and down, by the weights g and W − g
 
 module _ (g W : ℕ) (w : zero < W) (l : g ≤ W) where
-  -- b is within one of a mixture m of p and q, which are within E of p′ and q′
-  near-mixed : {E : ℕ} {b : ℤ} {m m′ : Fraction} (p p′ q q′ : Fraction) → m ≈ mixture g W w p q → m′ ≈ mixture g W w p′ q′
-      → Small E (p -F p′) → Small E (q -F q′) → Near 1 b m → Near (E + 1) b m′
-  near-mixed p p′ q q′ e e′ s t h = near-le (omega arith) (near-move h (small-as (≈-sym (≈-sub e e′)) (apart-mix g W w l p p′ q q′ s t)))
+  first : Abs (pos g) g
+  first = record { bound = omega arith }
+
+  second : Abs (pos W -ℤ pos g) (W - g)
+  second = omega (zarith, at (pos W) ⊟ at (pos g))
+
+  -- what the second's weight leaves is the first's
+  first-left : Abs (pos W -ℤ (pos W -ℤ pos g)) g
+  first-left = omega (zarith, at (pos W) ⊟ (at (pos W) ⊟ at (pos g)))
+
+  -- a share of an error
+  shared : {E : ℕ} {a : ℤ} {p : Fraction} {α : ℤ} {m : ℕ} → Abs α m → m ≤ W → Near E a p → Small E (times α W w (error a p))
+  shared {α = α} h m n = small-times α W w (abs-as h refl m) (near-apart n)
 
   module _ {a1 a2 : ℤ} {E1 E2 : ℕ} {p1 p2 : Fraction} (h1 : Near E1 a1 p1) (h2 : Near E2 a2 p2) where
-    s1 : Small E1 (whole a1 -F p1)
-    s1 = near-apart h1
+    -- ---- a parallel adaptor that sends up u
 
-    s2 : Small E2 (whole a2 -F p2)
-    s2 = near-apart h2
+    module _ {u : ℤ} (r : Near 1 u (joined g W w (whole a1) (whole a2))) where
+      abbrev sentUp : Fraction
+      sentUp = error u (joined g W w p1 p2)
 
-    pub near-joined : {u : ℤ} → Near 1 u (joined g W w (whole a1) (whole a2)) → Near (E1 + E2 + 1) u (joined g W w p1 p2)
-    near-joined =
-        near-mixed (whole a1) p1 (whole a2) p2 (joined-mixes g W w (whole a1) (whole a2)) (joined-mixes g W w p1 p2)
-        (small-le (omega arith) s1) (small-le (omega arith) s2)
+      -- beside a share of one child's error there is in u's a share of the other's, and the rounding
+      beside-first : Small (E2 + 1) (sentUp -F times (pos g) W w (error a1 p1))
+      beside-first =
+          let A1 = wholeE (var 6) in let A2 = wholeE (var 7) in let U = wholeE (var 8) in
+          small-as (record {
+            same = by (parts (over (pos g) W w ∷ p1 ∷ p2 ∷ []) (a1 ∷ a2 ∷ u ∷ []))
+                (timesE (K ⊝ G) K (A2 ⊝F fracE 2) ⊕F (U ⊝F joinedE A1 A2)) (U ⊝F joinedE (fracE 1) (fracE 2) ⊝F timesE G K (A1 ⊝F fracE 1)) refl;
+          })
+          (small-add (shared second (omega arith) h2) (near-apart r))
 
-    -- coming down, with a3 from above
-    module _ {a3 : ℤ} {E3 : ℕ} {p3 : Fraction} (h3 : Near E3 a3 p3) where
-      s3 : Small E3 (whole a3 -F p3)
-      s3 = near-apart h3
+      beside-second : Small (E1 + 1) (sentUp -F times (pos W -ℤ pos g) W w (error a2 p2))
+      beside-second =
+          let A1 = wholeE (var 6) in let A2 = wholeE (var 7) in let U = wholeE (var 8) in
+          small-as (record {
+            same = by (parts (over (pos g) W w ∷ p1 ∷ p2 ∷ []) (a1 ∷ a2 ∷ u ∷ []))
+                (timesE G K (A1 ⊝F fracE 1) ⊕F (U ⊝F joinedE A1 A2)) (U ⊝F joinedE (fracE 1) (fracE 2) ⊝F timesE (K ⊝ G) K (A2 ⊝F fracE 2)) refl;
+          })
+          (small-add (shared first l h1) (near-apart r))
 
-      pub near-parallel-first : {u : ℤ} → Near 1 u (joined g W w (whole a1) (whole a2))
-          → Near (E1 + E2 + E3 + 1) (u +ℤ a3 -ℤ a1) (joined g W w p1 p2 +F p3 -F p1)
-      near-parallel-first h =
-          near-mixed (whole a3) p3 (whole a2 -F whole a1 +F whole a3) (p2 -F p1 +F p3)
-          (parallel-first-mixes g W w (whole a1) (whole a2) (whole a3)) (parallel-first-mixes g W w p1 p2 p3)
-          (small-le (omega arith) s3)
-          (small-le (omega arith)
-          (apart-add (whole a2 -F whole a1) (p2 -F p1) (whole a3) p3
-          (apart-add (whole a2) p2 (negF (whole a1)) (negF p1) s2 (apart-neg (whole a1) p1 s1)) s3))
-          (near-sub (near-add h (near-whole a3)) (near-whole a1))
+      pub joined-near : Near (E1 + E2 + 1) u (joined g W w p1 p2)
+      joined-near =
+          let t = times (pos g) W w (error a1 p1) in
+          error-near (small-le (omega arith) (small-as (difference-undo sentUp t) (small-add beside-first (shared first l h1))))
 
-      pub near-parallel-second : {u : ℤ} → Near 1 u (joined g W w (whole a1) (whole a2))
-          → Near (E1 + E2 + E3 + 1) (u +ℤ a3 -ℤ a2) (joined g W w p1 p2 +F p3 -F p2)
-      near-parallel-second h =
-          near-mixed (whole a1 -F whole a2 +F whole a3) (p1 -F p2 +F p3) (whole a3) p3
-          (parallel-second-mixes g W w (whole a1) (whole a2) (whole a3)) (parallel-second-mixes g W w p1 p2 p3)
-          (apart-add (whole a1 -F whole a2) (p1 -F p2) (whole a3) p3
-          (apart-add (whole a1) p1 (negF (whole a2)) (negF p2) s1 (apart-neg (whole a2) p2 s2)) s3)
-          (small-le (omega arith) s3)
-          (near-sub (near-add h (near-whole a3)) (near-whole a2))
+      -- it gets back a3, and sends each child u + a3 less what the child sent
+      module _ {D : ℕ} {a3 : ℤ} {p3 : Fraction} (back : Echo D u (joined g W w p1 p2) a3 p3) where
+        pub parallel-first : Echo (2 * E2 + 2 + D) a1 p1 (u +ℤ a3 -ℤ a1) (joined g W w p1 p2 +F p3 -F p1)
+        parallel-first =
+            record {
+              echo = reflects-as (≈-refl (error a1 p1)) (less-errors u a3 a1 (joined g W w p1 p2) p3 p1) (omega arith)
+                  (parallel-child W w (pos g) first second (omega arith) (error a1 p1) sentUp (error a3 p3) beside-first (back .echo));
+            }
 
-      pub near-series-first : {b : ℤ} → Near 1 b (parted g W w (whole a1) (whole a2) (whole a3))
-          → Near (E1 + E2 + E3 + 1) b (parted g W w p1 p2 p3)
-      near-series-first =
-          near-mixed (negF (whole a2 +F whole a3)) (negF (p2 +F p3)) (whole a1) p1
-          (series-first-mixes g W w (whole a1) (whole a2) (whole a3)) (series-first-mixes g W w p1 p2 p3)
-          (small-le (omega arith) (apart-neg (whole a2 +F whole a3) (p2 +F p3) (apart-add (whole a2) p2 (whole a3) p3 s2 s3)))
-          (small-le (omega arith) s1)
+        pub parallel-second : Echo (2 * E1 + 2 + D) a2 p2 (u +ℤ a3 -ℤ a2) (joined g W w p1 p2 +F p3 -F p2)
+        parallel-second =
+            record {
+              echo = reflects-as (≈-refl (error a2 p2)) (less-errors u a3 a2 (joined g W w p1 p2) p3 p2) (omega arith)
+                  (parallel-child W w (pos W -ℤ pos g) second first-left (omega arith) (error a2 p2) sentUp (error a3 p3) beside-second (back .echo));
+            }
 
-      -- not by the errors of a3 and of b, which would double from adaptor to adaptor
-      pub near-series-second : {b : ℤ} → Near 1 b (parted g W w (whole a1) (whole a2) (whole a3))
-          → Near (E1 + E2 + E3 + 1) (negℤ (a3 +ℤ b)) (negF (p3 +F parted g W w p1 p2 p3))
-      near-series-second h =
-          near-mixed (whole a2) p2 (negF (whole a1 +F whole a3)) (negF (p1 +F p3))
-          (series-second-mixes g W w (whole a1) (whole a2) (whole a3)) (series-second-mixes g W w p1 p2 p3)
-          (small-le (omega arith) s2)
-          (small-le (omega arith) (apart-neg (whole a1 +F whole a3) (p1 +F p3) (apart-add (whole a1) p1 (whole a3) p3 s1 s3)))
-          (near-neg (near-add (near-whole a3) h))
+    -- ---- a series adaptor that sends up minus the sum, gets back a3, and sends b to its first child, minus the sum of a3 and b to its second
+
+    module _ {D : ℕ} {a3 : ℤ} {p3 : Fraction} (back : Echo D (negℤ (a1 +ℤ a2)) (negF (p1 +F p2)) a3 p3) {b : ℤ}
+        (r : Near 1 b (parted g W w (whole a1) (whole a2) (whole a3))) where
+      abbrev rounding : Fraction
+      rounding = error b (parted g W w (whole a1) (whole a2) (whole a3))
+
+      back-first : Reflects D (negF (error a1 p1 +F error a2 p2)) (error a3 p3)
+      back-first = reflects-as (minus-errors a1 a2 p1 p2) (≈-refl (error a3 p3)) (omega arith) (back .echo)
+
+      back-second : Reflects D (negF (error a2 p2 +F error a1 p1)) (error a3 p3)
+      back-second =
+          reflects-as (≈-neg (sum-comm (error a1 p1) (error a2 p2))) (≈-refl (error a3 p3)) (omega arith) back-first
+
+      pub series-first : Echo (2 * E2 + 2 + D) a1 p1 b (parted g W w p1 p2 p3)
+      series-first =
+          let A1 = wholeE (var 8) in let A2 = wholeE (var 9) in let A3 = wholeE (var 10) in let B = wholeE (var 11) in
+          record {
+            echo = reflects-as (≈-refl (error a1 p1))
+                (record {
+                  same = by (parts (over (pos g) W w ∷ p1 ∷ p2 ∷ p3 ∷ []) (a1 ∷ a2 ∷ a3 ∷ b ∷ []))
+                      (timesE (K ⊝ G) K (A1 ⊝F fracE 1) ⊝F timesE G K (A2 ⊝F fracE 2 ⊕F (A3 ⊝F fracE 3)) ⊕F (B ⊝F partedE A1 A2 A3))
+                      (B ⊝F partedE (fracE 1) (fracE 2) (fracE 3)) refl;
+                })
+                (omega arith)
+                (reflects-rounded (error a1 p1) (times (pos W -ℤ pos g) W w (error a1 p1) -F times (pos g) W w (error a2 p2 +F error a3 p3))
+                rounding (near-apart r)
+                (series-child W w (pos g) first second (omega arith) (error a1 p1) (error a2 p2) (error a3 p3) (near-apart h2) back-first));
+          }
+
+      pub series-second : Echo (2 * E1 + 2 + D) a2 p2 (negℤ (a3 +ℤ b)) (negF (p3 +F parted g W w p1 p2 p3))
+      series-second =
+          let A1 = wholeE (var 8) in let A2 = wholeE (var 9) in let A3 = wholeE (var 10) in let B = wholeE (var 11) in
+          let β = pos W -ℤ pos g in
+          record {
+            echo = reflects-as (≈-refl (error a2 p2))
+                (record {
+                  same = by (parts (over (pos g) W w ∷ p1 ∷ p2 ∷ p3 ∷ []) (a1 ∷ a2 ∷ a3 ∷ b ∷ []))
+                      (timesE (K ⊝ (K ⊝ G)) K (A2 ⊝F fracE 2) ⊝F timesE (K ⊝ G) K (A1 ⊝F fracE 1 ⊕F (A3 ⊝F fracE 3)) ⊝F (B ⊝F partedE A1 A2 A3))
+                      (wholeE (⊖ (var 10 ⊕ var 11)) ⊝F ⊖F (fracE 3 ⊕F partedE (fracE 1) (fracE 2) (fracE 3))) refl;
+                })
+                (omega arith)
+                (reflects-rounded (error a2 p2) (times (pos W -ℤ β) W w (error a2 p2) -F times β W w (error a1 p1 +F error a3 p3))
+                (negF rounding) (small-neg (near-apart r))
+                (series-child W w β second first-left (omega arith) (error a2 p2) (error a1 p1) (error a3 p3) (near-apart h1) back-second));
+          }

@@ -10,3 +10,5 @@ pub mod Leaves
 pub mod Columns
 pub mod Accepting
 pub mod ColumnRule
+pub mod Sizes
+pub mod Reflectance

@@ -1,31 +1,20 @@
--- How far a sample with any rounding strays, tree by tree. Going up, n adaptors stray by n at most, one for each. The diode adds its one
--- to what reaches it. Coming down, an adaptor adds what its two children's waves stray by and one: as much as it has adaptors under it
--- and itself. So n adaptors add n + (n − 1) + .. + 1 on the way to any leaf.
+-- How far a sample with any rounding strays, tree by tree. Going up, n adaptors stray by n at most, one for each. Coming down, a tree gets
+-- back what it strayed by itself, and beside that two for each adaptor outside it and one for the diode; so a leaf, which strays by
+-- nothing itself, gets a wave that strays by two for each adaptor and one.
 use Prim.Native.Nat.{ℕ, zero, suc, _+_, _*_, _<_, _≤_}
 use native.Mathlib.Omega.{arith}
-use mathlib.Core.Path.{_≡_, refl}
 use mathlib.Core.Bool.{Bool, true, false, cond}
-use lib.IntN.{ℤ, pos, _+ℤ_, negℤ}
-use Rattle.whole.specs.Fraction.{Fraction, whole, _+F_, negF, _-F_}
-use Rattle.whole.specs.Nearness.{NoFurther, small-by, Near, near-le, near-neg, near-add, near-apart, near-move}
+use lib.IntN.{ℤ}
+use Rattle.whole.specs.Fraction.{Fraction}
+use Rattle.whole.specs.Nearness.{Near, near-le, near-neg, near-add}
 use Rattle.circuit.specs.Record.{Tree, leaf, adaptor, adaptors}
 use Rattle.circuit.specs.SetUp.{parts}
 use Rattle.circuit.specs.Sample.{Arithmetic, holds, sendsUp, sendsFirst, sendsSecond, up, reach}
 use Rattle.circuit.specs.declared.Join.{Join}
 use Rattle.circuit.specs.declared.Join.the-variants.{Series, Parallel}
-use Rattle.laws.proofs.Adaptors.{near-joined, near-parallel-first, near-parallel-second, near-series-first, near-series-second}
+use Rattle.laws.proofs.Reflectance.{Echo, echo-leaf}
+use Rattle.laws.proofs.Adaptors.{joined-near, parallel-first, parallel-second, series-first, series-second}
 use Rattle.theorems.specs.Rounding.{Rounding, wholeWaves, fractions, ErrsByOne}
-
--- 1 + 2 + .. + n
-unfoldable pub triangle : ℕ → ℕ
-triangle zero = 0
-triangle (suc n) = suc n + triangle n
-
-pub triangle-grows : (m n : ℕ) → m ≤ n → triangle m ≤ triangle n
-unfolding triangle
-triangle-grows zero n h = omega arith
-triangle-grows (suc m) zero h = absurd (omega arith)
-triangle-grows (suc m) (suc n) h = let k = triangle-grows m n (omega arith) in omega arith
 
 -- as the definitions have it
 abbrev pub parts-above-zero : zero < parts
@@ -45,21 +34,23 @@ module _ (ρ : Rounding) (curve : Fraction → Fraction) (errs : ErrsByOne ρ cu
   -- ---- one adaptor
 
   module _ (g : ℕ) (l : g ≤ parts) {a1 a2 : ℤ} {E1 E2 : ℕ} {p1 p2 : Fraction} (h1 : Near E1 a1 p1) (h2 : Near E2 a2 p2) where
-    sends-up-near : (k : Join) → Near (E1 + E2 + 1) (sendsUp 𝓡 k g a1 a2) (sendsUp 𝓕 k g p1 p2)
+    up-strays : (k : Join) → Near (E1 + E2 + 1) (sendsUp 𝓡 k g a1 a2) (sendsUp 𝓕 k g p1 p2)
     unfolding sendsUp
-    sends-up-near Series = near-le (omega arith) (near-neg (near-add h1 h2))
-    sends-up-near Parallel = near-joined g parts parts-above-zero l h1 h2 (errs .join g a1 a2)
+    up-strays Series = near-le (omega arith) (near-neg (near-add h1 h2))
+    up-strays Parallel = joined-near g parts parts-above-zero l h1 h2 (errs .join g a1 a2)
 
-    module _ {a3 : ℤ} {E3 : ℕ} {p3 : Fraction} (h3 : Near E3 a3 p3) where
-      sends-first-near : (k : Join) → Near (E1 + E2 + E3 + 1) (sendsFirst 𝓡 k g a1 a2 a3) (sendsFirst 𝓕 k g p1 p2 p3)
-      unfolding sendsFirst
-      sends-first-near Series = near-series-first g parts parts-above-zero l h1 h2 h3 (errs .split g a1 a2 a3)
-      sends-first-near Parallel = near-parallel-first g parts parts-above-zero l h1 h2 h3 (errs .join g a1 a2)
+    module _ {D : ℕ} {a3 : ℤ} {p3 : Fraction} where
+      first-strays : (k : Join) → Echo D (sendsUp 𝓡 k g a1 a2) (sendsUp 𝓕 k g p1 p2) a3 p3
+          → Echo (2 * E2 + 2 + D) a1 p1 (sendsFirst 𝓡 k g a1 a2 a3) (sendsFirst 𝓕 k g p1 p2 p3)
+      unfolding sendsUp sendsFirst
+      first-strays Series back = series-first g parts parts-above-zero l h1 h2 back (errs .split g a1 a2 a3)
+      first-strays Parallel back = parallel-first g parts parts-above-zero l h1 h2 (errs .join g a1 a2) back
 
-      sends-second-near : (k : Join) → Near (E1 + E2 + E3 + 1) (sendsSecond 𝓡 k g a1 a2 a3) (sendsSecond 𝓕 k g p1 p2 p3)
-      unfolding sendsSecond
-      sends-second-near Series = near-series-second g parts parts-above-zero l h1 h2 h3 (errs .split g a1 a2 a3)
-      sends-second-near Parallel = near-parallel-second g parts parts-above-zero l h1 h2 h3 (errs .join g a1 a2)
+      second-strays : (k : Join) → Echo D (sendsUp 𝓡 k g a1 a2) (sendsUp 𝓕 k g p1 p2) a3 p3
+          → Echo (2 * E1 + 2 + D) a2 p2 (sendsSecond 𝓡 k g a1 a2 a3) (sendsSecond 𝓕 k g p1 p2 p3)
+      unfolding sendsUp sendsSecond
+      second-strays Series back = series-second g parts parts-above-zero l h1 h2 back (errs .split g a1 a2 a3)
+      second-strays Parallel back = parallel-second g parts parts-above-zero l h1 h2 (errs .join g a1 a2) back
 
   -- ---- a tree, whose leaves send exact waves
 
@@ -67,18 +58,15 @@ module _ (ρ : Rounding) (curve : Fraction → Fraction) (errs : ErrsByOne ρ cu
     pub up-near : (t : Tree) → Near (adaptors t) (up 𝓡 g w t) (up 𝓕 g v t)
     unfolding up adaptors
     up-near (leaf j) = exact j
-    up-near (adaptor k j t1 t2) = near-le (omega arith) (sends-up-near (g j) (fair j) (up-near t1) (up-near t2) k)
+    up-near (adaptor k j t1 t2) = near-le (omega arith) (up-strays (g j) (fair j) (up-near t1) (up-near t2) k)
 
-    -- with a wave from above that strays by D
-    pub reach-near : (t : Tree) (j : ℕ) {D : ℕ} {a : ℤ} {p : Fraction} → Near D a p
-        → Near (triangle (adaptors t) + D) (reach 𝓡 g w t a j) (reach 𝓕 g v t p j)
-    unfolding reach adaptors triangle
-    reach-near (leaf i) j h = near-le (omega arith) h
+    pub reach-near : (t : Tree) (j : ℕ) {D : ℕ} {a : ℤ} {p : Fraction} → Echo D (up 𝓡 g w t) (up 𝓕 g v t) a p
+        → Near (2 * adaptors t + D) (reach 𝓡 g w t a j) (reach 𝓕 g v t p j)
+    unfolding up reach adaptors
+    reach-near (leaf i) j h = near-le (omega arith) (echo-leaf (exact i) h)
     reach-near (adaptor k i t1 t2) j h =
-        let n1 = adaptors t1 in
-        let n2 = adaptors t2 in
         let h1 = up-near t1 in
         let h2 = up-near t2 in
         near-either (holds t1 j)
-        (near-le (omega (arith, triangle-grows n1 (n1 + n2) (omega arith))) (reach-near t1 j (sends-first-near (g i) (fair i) h1 h2 h k)))
-        (near-le (omega (arith, triangle-grows n2 (n1 + n2) (omega arith))) (reach-near t2 j (sends-second-near (g i) (fair i) h1 h2 h k)))
+        (near-le (omega arith) (reach-near t1 j (first-strays (g i) (fair i) h1 h2 k h)))
+        (near-le (omega arith) (reach-near t2 j (second-strays (g i) (fair i) h1 h2 k h)))
