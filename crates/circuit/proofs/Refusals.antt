@@ -9,7 +9,7 @@ use lib.Ieee.{Float, nan, inf, fin}
 use Rattle.circuit.specs.Numbers.{Report, report, done, fails}
 use Rattle.circuit.specs.SetUp.{setUpReport}
 use Rattle.circuit.specs.Run.{freshWaves, ran}
-use Rattle.circuit.specs.File.{bytes, block, readReport, writeReport, clearRow, unused, zeros}
+use Rattle.circuit.specs.File.{block, readReport, writeReport, clearRow, unused, zeros}
 use Rattle.circuit.specs.declared.Join.the-variants.{Series, Parallel}
 use Rattle.circuit.specs.declared.Part.{Part}
 use Rattle.circuit.specs.declared.Part.the-variants.{Blank}
@@ -81,7 +81,7 @@ record Line : Type 0 where
 abbrev gives : Report → Report → Line
 gives f p = record { found = f; paper = p }
 
--- numbers 1 to 4 of a file, and 1 of a buffer to write
+-- numbers 1 to 3 of a file, and 1 of a buffer to write
 files : List Line
 files =
     gives (readReport []) (report 1 0)
@@ -90,23 +90,21 @@ files =
     ∷ gives (writeReport (record { circuit = case1; buffer = zeros 1536 })) done
     ∷ gives (readReport (block 0 [] ++ zeros 512 ++ zeros 512)) (report 2 1)
     ∷ gives (readReport (block 0 [] ++ block 1 [] ++ block 2 [])) (report 3 0)
-    ∷ gives (readReport (block 0 (bytes 2 1) ++ block 1 [] ++ block 2 [])) (report 4 0)
     ∷ []
 
 files-refused : map (λ (l : Line). l .found) files ≡ map (λ (l : Line). l .paper) files
 unfolding working files
 files-refused = refl
 
--- a file of blank rows, all zeros, with one byte that nothing uses set: in the heading, in a blank row, after the rows, after the columns; and
--- a row's kind that is none
+-- one byte of the heading that nothing uses set
 spoiled : List ℕ
-spoiled = 6 ∷ 993 ∷ 1008 ∷ 1520 ∷ 992 ∷ []
+spoiled = 6 ∷ 7 ∷ 12 ∷ 15 ∷ 24 ∷ []
 
-spoiled-refused : map (λ (at : ℕ). unused (set (zeros 1536) at 128)) spoiled ≡ map (λ (at : ℕ). fails 0) spoiled
+spoiled-refused : map (λ (at : ℕ). unused (set (zeros 25) at 128)) spoiled ≡ map (λ (at : ℕ). fails 0) spoiled
 unfolding working spoiled
 spoiled-refused = refl
 
--- a row of a kind with all its other bytes set: which of them the kind uses
+-- whether a row of a kind uses every byte of it that is set
 row : ℕ → List ℕ → Bool
 row kind others = clearRow kind 0 (kind ∷ others)
 
