@@ -5,9 +5,9 @@
 use Prim.Native.Nat.{ℕ, zero, _+_, _-_, _*_, _<_, _≤_}
 use native.Mathlib.Omega.{arith}
 use mathlib.Core.Path.{refl}
-use mathlib.Core.List.{List, [], _∷_}
+use mathlib.Core.List.{[], _∷_}
 use lib.IntN.{ℤ, pos, _+ℤ_, _-ℤ_, _*ℤ_, negℤ}
-use Rattle.whole.specs.Integers.{P, N, at, _⊟_}
+use Rattle.whole.specs.Integers.{at, _⊟_}
 use Rattle.whole.specs.Order.{zarith, Abs, abs-as}
 use Rattle.whole.specs.Quotients.{Rounds}
 use Rattle.whole.specs.Ring.{Exp, var, _⊕_, _⊗_, _⊝_, ⊖}

@@ -1,28 +1,29 @@
 -- What a drawn curve gives, single and pair alike: its line passes through every column and so through (0, 0), moves no further than its
--- input and never exceeds it in magnitude. The diode's answer is within one of the line, and does not exceed the wave either.
+-- input and never exceeds it in magnitude. So does the diode's answer, the line rounded toward zero, and it is within one of the line.
 use Prim.Native.Nat.{ℕ, zero, suc, _*_, _<_, _≤_}
 use native.Mathlib.Omega.{arith}
 use native.Mathlib.Nat.{le-of-mul-le-mul-right}
-use mathlib.Core.Path.{_≡_, refl, sym, ap, _∙_, subst}
+use mathlib.Core.Path.{_≡_, refl, sym, ap, _∙_}
 use mathlib.Core.Logic.{_⊎_, inl, inr}
 use mathlib.Core.List.{List, [], _∷_}
-use lib.ListN.{getD, take}
+use lib.ListN.{getD}
 use lib.Seq.{getD-take}
-use lib.IntN.{ℤ, pos, natAbs}
-use lib.Signed.{_≤ℤ_, _<ℤ_, quotZ, ≤ℤ-refl}
+use lib.IntN.{ℤ, pos, _-ℤ_, natAbs}
+use lib.Signed.{_≤ℤ_, quotZ, ≤ℤ-refl}
 use Rattle.whole.specs.Order.{zarith}
 use Rattle.whole.specs.Quotients.{trunc-low, trunc-rounds}
 use Rattle.whole.specs.Fraction.{Fraction, whole, _-F_, _≈_}
 use Rattle.whole.specs.Fractions.{≈-refl}
 use Rattle.whole.specs.Nearness.{NoFurther, no-further-as, Near, near-rounds}
 use Rattle.circuit.specs.Record.{columnAt}
-use Rattle.circuit.specs.Curve.{waveLimit, onward, single, paired, lineThrough, line, towardZero, reflected}
+use Rattle.circuit.specs.Curve.{waveLimit, onward, lineThrough, line, towardZero, reflected}
 use Rattle.circuit.specs.declared.Column.{Column}
 use Rattle.circuit.specs.declared.CurveKind.{CurveKind}
 use Rattle.circuit.specs.declared.CurveKind.the-variants.{Unset, Single, Pair}
 use Rattle.circuit.specs.declared.Record.{Record}
-use Rattle.laws.specs.Accepted.{Beside, Chain, origin, Has, Crosses, Drawn}
+use Rattle.laws.specs.Accepted.{Chain, origin, Has, Crosses, Drawn}
 use Rattle.laws.proofs.Line.{onward-next, single-right, paired-right}
+use Rattle.laws.proofs.Truncated.{toward-zero-moves}
 use Rattle.laws.proofs.Gentle.{Gentle, gentle-moves, never-exceeds, onward-at, onward-gentle, single-gentle, paired-gentle}
 
 -- ---- the line passes through its columns
@@ -111,6 +112,10 @@ module _ {r : Record} (d : Drawn r) where
   pub answer-never-exceeds : (a : ℤ) → natAbs (reflected r a) ≤ natAbs a
   unfolding reflected
   answer-never-exceeds a = toward-zero-below (line r (whole a)) a (line-never-exceeds (whole a))
+
+  pub answer-moves : (a b : ℤ) → natAbs (reflected r a -ℤ reflected r b) ≤ natAbs (a -ℤ b)
+  unfolding reflected
+  answer-moves a b = toward-zero-moves (line r (whole a)) (line r (whole b)) a b (line-moves (whole a) (whole b))
 
   -- |y| ≤ |x| ≤ 2^26
   pub column-y : (i : ℕ) → i < r .width → natAbs (columnAt r i .y) ≤ natAbs (columnAt r i .x)

@@ -2,19 +2,19 @@
 -- where both p + y and p − y do not fall. Such steps follow one another, so pieces that meet are gentle as one line.
 use Prim.Native.Nat.{ℕ, zero, _*_, _<_, max}
 use native.Mathlib.Omega.{arith}
-use mathlib.Core.Path.{_≡_, refl, sym, ap, _∙_}
-use mathlib.Core.Logic.{_⊎_, inl, inr}
+use mathlib.Core.Path.{_≡_, refl}
+use mathlib.Core.Logic.{inl, inr}
 use mathlib.Core.Bool.{Bool, true, false, cond}
 use mathlib.Core.List.{List, [], _∷_}
-use lib.IntN.{ℤ, pos, negsuc, _+ℤ_, _-ℤ_, _*ℤ_, natAbs}
-use lib.Signed.{_≤ℤ_, _<ℤ_}
-use Rattle.whole.specs.Integers.{P, N, at, _⊞_}
+use lib.IntN.{ℤ, pos, negsuc, _+ℤ_, _-ℤ_, natAbs}
+use lib.Signed.{_≤ℤ_}
+use Rattle.whole.specs.Integers.{at, _⊞_}
 use Rattle.whole.specs.Order.{zarith, Abs}
-use Rattle.whole.specs.Ring.{Exp, var, con, _⊕_, _⊗_, _⊝_, ⊖, ring}
+use Rattle.whole.specs.Ring.{Exp, var, con, _⊕_, _⊗_, _⊝_}
 use Rattle.whole.specs.Combine.{multiple}
 use Rattle.whole.specs.Certificate.{nn-pos, nn-mul, nn-diff}
 use Rattle.whole.specs.Mirror.{Quot, parts, fracE, wholeE, _⊕F_, ⊖F, _⊝F_, timesE, by, by-facts, by-certificate}
-use Rattle.whole.specs.Fraction.{Fraction, whole, _+F_, negF, _-F_, times, below, _≈_, _≤F_}
+use Rattle.whole.specs.Fraction.{Fraction, whole, _+F_, negF, _-F_, below, _≈_, _≤F_}
 use Rattle.whole.specs.Fractions.{≈-refl, ≈-sym, ≈-trans, ≈-neg, ≈-sub, sum-zero, opposite-sum, opposite-difference, ≤F-refl, ≈-≤F, ≤F-total, ≤F-trans, ≤F-neg, ≤F-add, below-true, below-false}
 use Rattle.whole.specs.Nearness.{NoFurther, no-further-between, no-further-neg, no-further-as}
 use Rattle.circuit.specs.Curve.{straight, segment, falling, rising, onward, single, paired}

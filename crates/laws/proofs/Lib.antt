@@ -12,3 +12,6 @@ pub mod Accepting
 pub mod ColumnRule
 pub mod Sizes
 pub mod Reflectance
+pub mod Playing
+pub mod Running
+pub mod Truncated

@@ -8,9 +8,9 @@ use mathlib.Core.List.{List, [], _∷_}
 use lib.ListN.{take}
 use lib.IntN.{ℤ, pos, negsuc, _+ℤ_, _-ℤ_, _*ℤ_, negℤ, natAbs}
 use lib.Signed.{_≤ℤ_, _<ℤ_, quotZ}
-use Rattle.whole.specs.Integers.{P, N, at, _⊟_, _⊠_}
+use Rattle.whole.specs.Integers.{at, _⊟_, _⊠_}
 use Rattle.whole.specs.Order.{zarith, abs-parts, true-ltZ, false-ltZ}
-use Rattle.whole.specs.Ring.{Exp, var, con, _⊕_, _⊗_, _⊝_, ⊖, ring}
+use Rattle.whole.specs.Ring.{var, con, _⊕_, _⊗_, _⊝_, ⊖, ring}
 use Rattle.whole.specs.Quotients.{trunc-odd, trunc-exact}
 use Rattle.whole.specs.Fraction.{Fraction, whole, negF, below}
 use Rattle.circuit.specs.Curve.{straight, segment, falling, rising, onward, single, paired, lineThrough, line, towardZero, reflected}

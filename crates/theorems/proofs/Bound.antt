@@ -1,23 +1,22 @@
 -- DEMAND 3. A finished sample's output and the waves it stores are within 2N² + N + 1 of the unrounded sample's. It is shown for any
 -- rounding that errs by at most one in each place and any curve that moves no further than its input; the paper's rounding and an
 -- accepted curve are one case. The argument gives 2N + 1, which is no more for every N.
-use Prim.Native.Nat.{ℕ, zero, suc, _+_, _*_, _<_, _≤_}
+use Prim.Native.Nat.{ℕ, zero, suc, _+_, _*_, _≤_}
 use native.Mathlib.Omega.{arith}
-use mathlib.Core.Path.{_≡_, refl}
+use mathlib.Core.Path.{_≡_}
 use mathlib.Core.Bool.{Bool, true, false, cond}
 use mathlib.Core.List.{List}
 use lib.Dec.{eqb}
-use lib.ListN.{getD}
 use lib.IntN.{ℤ, pos, _+ℤ_, _-ℤ_, _*ℤ_}
 use Rattle.whole.specs.Quotients.{floor-rounds}
-use Rattle.whole.specs.Fraction.{Fraction, whole, _-F_}
+use Rattle.whole.specs.Fraction.{Fraction, whole}
 use Rattle.whole.specs.Nearness.{Near, near-le, near-whole, near-neg, near-add}
 use Rattle.circuit.specs.Counting.{table, within}
 use Rattle.circuit.specs.Numbers.{done}
 use Rattle.circuit.specs.Record.{rowLimit, sourceLimit, top, partAt, treeOf}
 use Rattle.circuit.specs.SetUp.{parts, ratioAt, setUpReport}
 use Rattle.circuit.specs.Curve.{line, reflected}
-use Rattle.circuit.specs.Sample.{Arithmetic, sends, stores, partSends, partStores, sent, risen, arriving, kept, output, h, rounded, unrounded, Sampled, finished, refused, storedAt, inLimit, sampled}
+use Rattle.circuit.specs.Sample.{Arithmetic, sends, stores, partSends, partStores, sent, risen, arriving, kept, output, h, rounded, finished, refused, storedAt, inLimit, sampled}
 use Rattle.circuit.specs.declared.Element.{Element}
 use Rattle.circuit.specs.declared.Element.the-variants.{Resistor, Capacitor, Inductor, Input, Steady}
 use Rattle.circuit.specs.declared.Part.{Part}

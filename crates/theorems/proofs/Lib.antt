@@ -1,2 +1,6 @@
 pub mod Straying
 pub mod Bound
+pub mod Tight
+pub mod Cutting
+pub mod RunBound
+pub mod Curve

@@ -1,7 +1,7 @@
 -- How far a sample with any rounding strays, tree by tree. Going up, n adaptors stray by n at most, one for each. Coming down, a tree gets
 -- back what it strayed by itself, and beside that two for each adaptor outside it and one for the diode; so a leaf, which strays by
 -- nothing itself, gets a wave that strays by two for each adaptor and one.
-use Prim.Native.Nat.{ℕ, zero, suc, _+_, _*_, _<_, _≤_}
+use Prim.Native.Nat.{ℕ, zero, _+_, _*_, _<_, _≤_}
 use native.Mathlib.Omega.{arith}
 use mathlib.Core.Bool.{Bool, true, false, cond}
 use lib.IntN.{ℤ}

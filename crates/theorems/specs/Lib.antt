@@ -1,2 +1,4 @@
 pub mod Rounding
 pub mod Limit
+pub mod Pieces
+pub mod Curve

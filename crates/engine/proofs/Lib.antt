@@ -1,0 +1,13 @@
+pub mod Wide
+pub mod Copying
+pub mod Passed
+pub mod Pieces
+pub mod Slope
+pub mod LaidOut
+pub mod Range
+pub mod Fill
+pub mod Ranks
+pub mod Stages
+pub mod Climb
+pub mod Fall
+pub mod Reach

@@ -1,0 +1,101 @@
+-- The adaptors of a record in the order of their rows: the one at place k of the list, and what its word says. What an adaptor does is the
+-- same for every record.
+use Prim.Native.Nat.{ℕ, zero, suc, _<_, _≤_}
+use native.Mathlib.Nat.{lt-irrefl, lt-of-lt-of-le}
+use native.Mathlib.Omega.{arith}
+use mathlib.Core.Path.{_≡_, refl, sym, ap, _∙_, subst}
+use mathlib.Core.Bool.{Bool, true, false, true≢false}
+use mathlib.Core.Logic.{_⊎_, inl, inr}
+use mathlib.Core.List.{List}
+use lib.ListN.{getD}
+use lib.IntN.{ℤ}
+use Rattle.circuit.specs.Record.{partAt, isBlank}
+use Rattle.circuit.specs.SetUp.{ratioAt}
+use Rattle.circuit.specs.Sample.{rounded, sendsUp, sendsFirst, sendsSecond}
+use Rattle.circuit.specs.declared.Element.{Element}
+use Rattle.circuit.specs.declared.Join.{Join}
+use Rattle.circuit.specs.declared.Join.the-variants.{Series, Parallel}
+use Rattle.circuit.specs.declared.Adaptor.{Adaptor as Joint}
+use Rattle.circuit.specs.declared.Part.{Part}
+use Rattle.circuit.specs.declared.Part.the-variants.{Blank, Leaf, Adaptor}
+use Rattle.circuit.specs.declared.Record.{Record}
+use Rattle.laws.specs.Accepted.{Lower, Child, Accepted}
+use Rattle.engine.specs.Plan.{isAdaptor, rank, linkFor, Says, Lists}
+use Rattle.engine.specs.Sweep.{linkAt}
+use Rattle.engine.proofs.Ranks.{rank-at, rank-rises}
+
+-- ---- for every record
+
+module _ (r s : Record) (g : ℕ) (a1 a2 : ℤ) where
+  pub any-up : (k : Join) → sendsUp (rounded r) k g a1 a2 ≡ sendsUp (rounded s) k g a1 a2
+  unfolding sendsUp
+  any-up Series = refl
+  any-up Parallel = refl
+
+  pub any-first : (a3 : ℤ) (k : Join) → sendsFirst (rounded r) k g a1 a2 a3 ≡ sendsFirst (rounded s) k g a1 a2 a3
+  unfolding sendsFirst
+  any-first a3 Series = refl
+  any-first a3 Parallel = refl
+
+  pub any-second : (a3 : ℤ) (k : Join) → sendsSecond (rounded r) k g a1 a2 a3 ≡ sendsSecond (rounded s) k g a1 a2 a3
+  unfolding sendsSecond
+  any-second a3 Series = refl
+  any-second a3 Parallel = refl
+
+-- ---- a row that is in use is a leaf or an adaptor
+
+pub adaptor-of : (p : Part) → isAdaptor p ≡ true → (a : Joint) × (p ≡ Adaptor a)
+adaptor-of Blank e = absurd (true≢false (sym e))
+adaptor-of (Leaf x) e = absurd (true≢false (sym e))
+adaptor-of (Adaptor a) e = (a, refl)
+
+pub leaf-or-adaptor : (p : Part) → isBlank p ≡ false → ((x : Element) × (p ≡ Leaf x)) ⊎ ((a : Joint) × (p ≡ Adaptor a))
+leaf-or-adaptor Blank e = absurd (true≢false e)
+leaf-or-adaptor (Leaf x) e = inl (x, refl)
+leaf-or-adaptor (Adaptor a) e = inr (a, refl)
+
+-- an adaptor's children stand in lower rows
+pub children-lower : (r : Record) → Accepted r → (j : ℕ) (a : Joint) → partAt r j ≡ Adaptor a → (a .first < j) × (a .second < j)
+unfolding Lower
+children-lower r acc j a e = subst (Lower j) e (acc .lower j)
+
+-- ---- by place
+
+abbrev pub adaptorRank : Record → ℕ → ℕ
+adaptorRank r j = rank (λ i. isAdaptor (partAt r i)) j
+
+pub record Stage (r : Record) (words rows : List ℕ) (k : ℕ) : Type 0 where
+  pub row : ℕ
+  pub joint : Joint
+  pub inside : row < r .count
+  pub part : partAt r row ≡ Adaptor joint
+  pub place : adaptorRank r row ≡ k
+  pub listed : getD rows k 0 ≡ row
+  pub link : linkAt words row ≡ linkFor joint (ratioAt r row)
+
+module _ (r : Record) (acc : Accepted r) (words rows : List ℕ) (n : ℕ) (says : (j : ℕ) → j < 31 → Says (partAt r j) (ratioAt r j) (getD words j 0))
+    (lists : Lists (λ j. isAdaptor (partAt r j)) (r .count) rows n) where
+  pub is-adaptor : (p : ℕ) (a : Joint) → partAt r p ≡ Adaptor a → isAdaptor (partAt r p) ≡ true
+  is-adaptor p a e = ap isAdaptor e
+
+  pub stage-at : (k : ℕ) → k < n → Stage r words rows k
+  unfolding Says
+  stage-at k l =
+      let w = rank-at (λ i. isAdaptor (partAt r i)) (r .count) k (subst (λ (m : ℕ). k < m) (lists .all) l) in
+      let j = adaptor-of (partAt r (w .0)) (w .2) in
+      let short = acc .short in
+      let said : Says (Adaptor (j .0)) (ratioAt r (w .0)) (getD words (w .0) 0) =
+      subst (λ (p : Part). Says p (ratioAt r (w .0)) (getD words (w .0) 0)) (j .1) (says (w .0) (omega (arith, w .1))) in
+      record {
+        row = w .0;
+        joint = j .0;
+        inside = w .1;
+        part = j .1;
+        place = w .3;
+        listed = subst (λ (m : ℕ). getD rows m 0 ≡ w .0) (w .3) (lists .each (w .0) (w .1) (w .2));
+        link = said;
+      }
+
+  -- a row at a stage's place is its row
+  pub same-place : (k : ℕ) (s : Stage r words rows k) (j : ℕ) → j < r .count → isAdaptor (partAt r j) ≡ true → adaptorRank r j ≡ k → j ≡ s .row
+  same-place k s j l e p = sym (lists .each j l e) ∙ ap (λ m. getD rows m 0) p ∙ s .listed

@@ -1,0 +1,14 @@
+-- `join_of` meets its contract, at each outcome of its test.
+use mathlib.Core.Path.{_≡_, refl}
+use borrow.Author.Tests.{eq-eqb, ne-eqb}
+use Rattle.engine.proofs.plan.join_of.Statement.{statement}
+use Rattle.engine.proofs.plan.join_of.Tie as tie
+
+returns : tie.Need-returns
+returns c = rw (eq-eqb _ _ (c .if1 .taken))
+
+returns-2 : tie.Need-returns-2
+returns-2 c = rw (ne-eqb _ _ (c .if1 .left))
+
+pub join-of-spec : {M : Type 1} → statement M
+join-of-spec = tie.close (tie.spec returns returns-2)

@@ -1,0 +1,4 @@
+pub mod Curve
+pub mod Wave
+pub mod Plan
+pub mod Sweep

@@ -1,0 +1,197 @@
+// What a run lays out of a record before its first sample: a word for each row, and lists of the rows that a sweep visits.
+use circuit::Adaptor;
+use circuit::Element;
+use circuit::Join;
+use circuit::Part;
+use circuit::Prepared;
+use circuit::ROWS;
+use circuit::Row;
+ghost use mathlib.Core.Path.{_≡_};
+ghost use Prim.Native.Nat.{ℕ, _≤_, _<_};
+ghost use lib.ListN.{getD};
+ghost use Rattle.circuit.specs.Record.{isLeaf};
+ghost use Rattle.circuit.specs.Run.{isReactive};
+ghost use Rattle.circuit.specs.declared.Part.{Part};
+ghost use Rattle.engine.specs.Plan.{joinOf, codeOf, linkOf, Says, isAdaptor, isReactivePart, chosenBy, enteredIf, partIn, ratioIn, Lists};
+
+// An adaptor's row: its ratio in parts of 2^24, and its children's rows.
+pub struct Link {
+    pub join: Join,
+    pub ratio: u32,
+    pub first: usize,
+    pub second: usize,
+}
+
+// Rows in rising order: the first `length` of `rows`.
+pub struct Listed {
+    pub rows: [u8; ROWS],
+    pub length: usize,
+}
+
+pub enum Choice {
+    Adaptors,
+    Leaves,
+    Reactive,
+}
+
+fn join_of(code: u64) -> Join
+    ensures { λ r. ⌜ r ≡ joinOf code ⌝ }
+{
+    if code == 0 {
+        Join::Series
+    } else {
+        Join::Parallel
+    }
+}
+
+fn code_of(join: Join) -> u64
+    ensures { λ r. ⌜ r ≡ codeOf join ⌝ }
+{
+    match join {
+        Join::Series => 0,
+        Join::Parallel => 1,
+    }
+}
+
+// A sweep reads an adaptor by one load: a byte for each child, a byte for its kind, and the ratio in the upper half.
+pub fn unpack(word: u64) -> Link
+    ensures { λ r. ⌜ r ≡ linkOf word ⌝ }
+{
+    let join = join_of(word / 65536 % 256);
+    let ratio = (word / 4294967296) as u32;
+    let first = (word % 256) as usize;
+    let second = (word / 256 % 256) as usize;
+    Link {
+        join,
+        ratio,
+        first,
+        second,
+    }
+}
+
+fn leaf_word(e: Element) -> u64
+    ensures { λ r. ⌜ Says (Part.Leaf e) 0 r ⌝ }
+{
+    match e {
+        Element::Resistor(_) => 0,
+        Element::Capacitor(_) => 0,
+        Element::Inductor(_) => 1,
+        Element::Input(_) => 0,
+        Element::Steady(_, _) => 0,
+    }
+}
+
+fn adaptor_word(a: Adaptor, g: u32) -> u64
+    ensures { λ r. ⌜ Says (Part.Adaptor a) g r ⌝ }
+{
+    let join = a.join;
+    let children = (a.first as u64) + 256 * (a.second as u64);
+    children + 65536 * code_of(join) + 4294967296 * (g as u64)
+}
+
+fn pack(part: Part, g: u32) -> u64
+    ensures { λ r. ⌜ Says part g r ⌝ }
+{
+    match part {
+        Part::Blank => 0,
+        Part::Leaf(e) => leaf_word(e),
+        Part::Adaptor(a) => adaptor_word(a, g),
+    }
+}
+
+pub fn words(rows: [Row; ROWS], prepared: [Prepared; ROWS]) -> [u64; ROWS]
+    ensures { λ r. ⌜ ((j : ℕ) → j < 31 → Says (partIn rows j) (ratioIn prepared j) (getD r j 0)) ⌝ }
+{
+    let mut words = [0u64; ROWS];
+    for i in 0..ROWS {
+        let row = rows[i];
+        let part = row.part;
+        let own = prepared[i];
+        words[i] = pack(part, own.ratio);
+    }
+    words
+}
+
+fn is_adaptor(part: Part) -> bool
+    ensures { λ r. ⌜ r ≡ isAdaptor part ⌝ }
+{
+    match part {
+        Part::Blank => false,
+        Part::Leaf(_) => false,
+        Part::Adaptor(_) => true,
+    }
+}
+
+fn is_leaf(part: Part) -> bool
+    ensures { λ r. ⌜ r ≡ isLeaf part ⌝ }
+{
+    match part {
+        Part::Blank => false,
+        Part::Leaf(_) => true,
+        Part::Adaptor(_) => false,
+    }
+}
+
+fn reacts(e: Element) -> bool
+    ensures { λ r. ⌜ r ≡ isReactive e ⌝ }
+{
+    match e {
+        Element::Resistor(_) => false,
+        Element::Capacitor(_) => true,
+        Element::Inductor(_) => true,
+        Element::Input(_) => false,
+        Element::Steady(_, _) => false,
+    }
+}
+
+fn is_reactive(part: Part) -> bool
+    ensures { λ r. ⌜ r ≡ isReactivePart part ⌝ }
+{
+    match part {
+        Part::Blank => false,
+        Part::Leaf(e) => reacts(e),
+        Part::Adaptor(_) => false,
+    }
+}
+
+fn chosen(choice: Choice, part: Part) -> bool
+    ensures { λ r. ⌜ r ≡ chosenBy choice part ⌝ }
+{
+    match choice {
+        Choice::Adaptors => is_adaptor(part),
+        Choice::Leaves => is_leaf(part),
+        Choice::Reactive => is_reactive(part),
+    }
+}
+
+// The list with row i at its end, if it is wanted.
+fn entered(list: Listed, i: usize, wanted: bool) -> Listed
+    requires { ⌜ (i < 31) × (list .length ≤ i) ⌝ }
+    ensures { λ r. ⌜ r ≡ enteredIf wanted i list ⌝ }
+{
+    if wanted {
+        let n = list.length;
+        let mut longer = list;
+        longer.rows[n] = i as u8;
+        longer.length = n + 1;
+        longer
+    } else {
+        list
+    }
+}
+
+pub fn rows_of(rows: [Row; ROWS], count: usize, choice: Choice) -> Listed
+    requires { ⌜ count ≤ 31 ⌝ }
+    ensures { λ r. ⌜ Lists (λ j. chosenBy choice (partIn rows j)) count (r .rows) (r .length) ⌝ }
+{
+    let mut list = Listed {
+        rows: [0u8; ROWS],
+        length: 0,
+    };
+    for i in 0..count {
+        let row = rows[i];
+        let part = row.part;
+        list = entered(list, i, chosen(choice, part));
+    }
+    list
+}

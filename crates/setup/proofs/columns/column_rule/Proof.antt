@@ -1,0 +1,19 @@
+-- `setup::columns::column_rule` meets its contract: one verdict, then the other, under one number.
+use mathlib.Core.Path.{ap, _∙_}
+use mathlib.Core.Bool.{not}
+use borrow.Author.Needs.{needs}
+use Rattle.circuit.specs.Curve.{soundColumn, passesOrigin, columnRule}
+use Rattle.circuit.specs.Numbers.{handed, unless, lowest}
+use Rattle.setup.proofs.Chain.{first-then}
+use Rattle.setup.proofs.columns.column_rule.Statement.{statement}
+use Rattle.setup.proofs.columns.column_rule.Tie as tie
+
+returns : tie.Need-returns
+unfolding columnRule
+returns c =
+    let r = c .before .before .before .args .r in
+    ap handed (c .first .ensures)
+    ∙ first-then 9 (lowest (λ i. not (soundColumn r i)) (r .width)) (unless (passesOrigin (r .kind) r) 0) (c .before .before .sound-columns .result) (c .before .origin-rule .result) (c .before .before .sound-columns .ensures) (c .before .origin-rule .ensures)
+
+pub column-rule-spec : {M : Type 1} → statement M
+column-rule-spec = tie.close (tie.spec (λ c κs. search needs) (λ c κs. search needs) (λ c κs. search needs) returns)

@@ -1,0 +1,11 @@
+-- `setup::port::ratio_fault` meets its contract: an arm for each part.
+use borrow.Author.Needs.{needs}
+use Rattle.setup.proofs.port.ratio_fault.Statement.{statement}
+use Rattle.setup.proofs.port.ratio_fault.Tie as tie
+
+returns-3 : tie.Need-returns-3
+returns-3 c = rw (c .enum-told3 .given .1)
+
+pub ratio-fault-spec : {M : Type 1} → statement M
+ratio-fault-spec =
+    tie.close (tie.spec (λ c. search needs) (λ c. search needs) (λ c. search needs) (λ c. search needs) (λ c. search needs) returns-3)

@@ -1,0 +1,186 @@
+// Port resistances and ratios in f64, a row after the rows below it, and rules 8, 9 and 11.
+
+ghost use mathlib.Core.Path.{_≡_};
+ghost use Prim.Native.Nat.{ℕ};
+ghost use Rattle.circuit.specs.Numbers.{handed};
+ghost use Rattle.circuit.specs.Record.{rowLimit, partAt};
+ghost use Rattle.circuit.specs.SetUp.{nothing, inRange, leafResistance, joinedResistance, quotient, scaledDown, fits, portResistances, ratios as ratioRule, curveResistance};
+ghost use Rattle.laws.specs.Accepted.{Lower};
+ghost use Rattle.setup.specs.Answers.{numbered};
+ghost use Rattle.setup.specs.Ratio.{held, faulty};
+ghost use Rattle.setup.specs.Rows.{joinedRow, preparedFrom, heldRows, Ready};
+use circuit::Answer;
+use circuit::Element;
+use circuit::Join;
+use circuit::Part;
+use circuit::Prepared;
+use circuit::ROWS;
+use circuit::Record;
+
+// 1 / 2^24 is one part of a ratio
+const PARTS: f64 = 16777216.0;
+
+fn leaf_resistance(rate: u32, e: Element) -> f64
+    ensures { λ r. ⌜ r ≡ leafResistance rate e ⌝ }
+{
+    match e {
+        Element::Resistor(ohms) => ohms,
+        Element::Capacitor(farads) => 1.0 / ((2.0 * farads) * (rate as f64)),
+        Element::Inductor(henries) => (2.0 * henries) * (rate as f64),
+        Element::Input(ohms) => ohms,
+        Element::Steady(ohms, _) => ohms,
+    }
+}
+
+fn joined_resistance(join: Join, r1: f64, r2: f64) -> f64
+    ensures { λ r. ⌜ r ≡ joinedResistance join r1 r2 ⌝ }
+{
+    match join {
+        Join::Series => r1 + r2,
+        Join::Parallel => (r1 * r2) / (r1 + r2),
+    }
+}
+
+fn quotient_of(join: Join, r1: f64, r2: f64) -> f64
+    ensures { λ q. ⌜ q ≡ quotient join r1 r2 ⌝ }
+{
+    match join {
+        Join::Series => r1 / (r1 + r2),
+        Join::Parallel => r2 / (r1 + r2),
+    }
+}
+
+// The quotient in parts of 2^24, rounded down. The product is exact: only its fraction is cut off.
+fn ratio_of(q: f64) -> u32
+    ensures { λ g. ⌜ g ≡ held (scaledDown q) ⌝ }
+{
+    if q > 0.0 {
+        if q < 1.0 {
+            return std::num::truncating_f64_to_u64(q * PARTS) as u32;
+        }
+    }
+    0
+}
+
+// From 1/1024 to 2^30 ohms.
+fn in_range(x: f64) -> bool
+    ensures { λ b. ⌜ b ≡ inRange x ⌝ }
+{
+    (0.0009765625 <= x) & (x <= 1073741824.0)
+}
+
+// Within one part in 1024 of the top's resistance.
+fn fits_top(q: f64, r: f64) -> bool
+    ensures { λ b. ⌜ b ≡ fits q r ⌝ }
+{
+    (r * 1023.0 <= q * 1024.0) & (q * 1024.0 <= r * 1025.0)
+}
+
+// What a blank row prepares to, and every row of a refused record.
+pub(crate) fn blank() -> Prepared
+    ensures { λ p. ⌜ p ≡ nothing ⌝ }
+{
+    Prepared {
+        resistance: 0.0,
+        ratio: 0,
+    }
+}
+
+fn joined(join: Join, r1: f64, r2: f64) -> Prepared
+    ensures { λ p. ⌜ p ≡ joinedRow join r1 r2 ⌝ }
+{
+    let resistance = joined_resistance(join, r1, r2);
+    let ratio = ratio_of(quotient_of(join, r1, r2));
+    Prepared { resistance, ratio }
+}
+
+// A row from the rows below it.
+fn prepared_row(rate: u32, rows: [Prepared; ROWS], p: Part) -> Prepared
+    requires { ⌜ Lower rowLimit p ⌝ }
+    ensures { λ q. ⌜ q ≡ preparedFrom rate rows p ⌝ }
+{
+    match p {
+        Part::Blank => blank(),
+        Part::Leaf(e) => {
+            let resistance = leaf_resistance(rate, e);
+            Prepared {
+                resistance,
+                ratio: 0,
+            }
+        }
+        Part::Adaptor(a) => {
+            let first = rows[a.first as usize];
+            let second = rows[a.second as usize];
+            let join = a.join;
+            joined(join, first.resistance, second.resistance)
+        }
+    }
+}
+
+// Every row, from the lowest up: an adaptor's children are lower than it.
+pub(crate) fn prepared_rows(r: Record) -> [Prepared; ROWS]
+    requires { ⌜ ((j : ℕ) → Lower j (partAt r j)) ⌝ }
+    ensures { λ rows. ⌜ rows ≡ heldRows r ⌝ }
+{
+    let mut rows = [blank(); ROWS];
+    for j in 0..ROWS {
+        let row = r.rows[j];
+        let part = row.part;
+        rows[j] = prepared_row(r.rate, rows, part);
+    }
+    rows
+}
+
+pub(crate) fn port_resistances(r: Record, rows: [Prepared; ROWS]) -> Answer
+    requires { ⌜ Ready r rows ⌝ }
+    ensures { λ a. ⌜ handed a ≡ numbered 8 (portResistances r) ⌝ }
+{
+    let count = r.count;
+    for j in 0..count {
+        let here = rows[j as usize];
+        if !in_range(here.resistance) {
+            return Answer::Resistance(j);
+        }
+    }
+    Answer::Done
+}
+
+// From 1 to 2^24 - 1 parts; only an adaptor has a ratio to be at fault.
+fn ratio_fault(p: Part, ratio: u32) -> bool
+    ensures { λ b. ⌜ b ≡ faulty p ratio ⌝ }
+{
+    match p {
+        Part::Blank => false,
+        Part::Leaf(_) => false,
+        Part::Adaptor(_) => !((1 <= ratio) & (ratio <= 16777215)),
+    }
+}
+
+pub(crate) fn ratios(r: Record, rows: [Prepared; ROWS]) -> Answer
+    requires { ⌜ Ready r rows ⌝ }
+    ensures { λ a. ⌜ handed a ≡ numbered 9 (ratioRule r) ⌝ }
+{
+    let count = r.count;
+    for j in 0..count {
+        let row = r.rows[j as usize];
+        let part = row.part;
+        let here = rows[j as usize];
+        if ratio_fault(part, here.ratio) {
+            return Answer::Ratio(j);
+        }
+    }
+    Answer::Done
+}
+
+pub(crate) fn curve_resistance(r: Record, rows: [Prepared; ROWS]) -> Answer
+    requires { ⌜ Ready r rows ⌝ }
+    ensures { λ a. ⌜ handed a ≡ numbered 11 (curveResistance r) ⌝ }
+{
+    let last = r.count - 1;
+    let top = rows[last as usize];
+    if fits_top(r.resistance, top.resistance) {
+        Answer::Done
+    } else {
+        Answer::Fit
+    }
+}

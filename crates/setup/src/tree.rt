@@ -1,0 +1,155 @@
+// Rule 6, the tree: children are lower than their adaptor, every row but the last is a child exactly once, one row is the input, and the
+// tap is a leaf or the top.
+
+ghost use mathlib.Core.Path.{_≡_};
+ghost use Prim.Native.Nat.{_<_, _≤_};
+ghost use Rattle.circuit.specs.Counting.{one};
+ghost use Rattle.circuit.specs.Numbers.{handed};
+ghost use Rattle.circuit.specs.Record.{rowLimit, partAt, isLeaf, isInput, notLower, names as namesOf, uses as usesOf, inputs as inputsOf, childrenLower, usedOnce, inputAndTap};
+ghost use Rattle.setup.specs.Answers.{numbered};
+use circuit::Answer;
+use circuit::Element;
+use circuit::Part;
+use circuit::ROWS;
+use circuit::Record;
+use circuit::TOP;
+
+fn not_lower(j: u8, p: Part) -> bool
+    ensures { λ b. ⌜ b ≡ notLower j p ⌝ }
+{
+    match p {
+        Part::Blank => false,
+        Part::Leaf(_) => false,
+        Part::Adaptor(a) => !((a.first < j) & (a.second < j)),
+    }
+}
+
+pub(crate) fn children_lower(r: Record) -> Answer
+    requires { ⌜ r .count ≤ rowLimit ⌝ }
+    ensures { λ a. ⌜ handed a ≡ numbered 6 (childrenLower r) ⌝ }
+{
+    let count = r.count;
+    for j in 0..count {
+        let row = r.rows[j as usize];
+        let part = row.part;
+        if not_lower(j, part) {
+            return Answer::Tree(j);
+        }
+    }
+    Answer::Done
+}
+
+fn one_if(b: bool) -> usize
+    ensures { λ n. ⌜ n ≡ one b ⌝ }
+{
+    if b { 1 } else { 0 }
+}
+
+// How often a part has row k for a child.
+fn names(p: Part, k: u8) -> usize
+    ensures { λ n. ⌜ n ≡ namesOf p k ⌝ }
+{
+    match p {
+        Part::Blank => 0,
+        Part::Leaf(_) => 0,
+        Part::Adaptor(a) => one_if(a.first == k) + one_if(a.second == k),
+    }
+}
+
+fn uses(r: Record, k: u8) -> usize
+    requires { ⌜ r .count ≤ rowLimit ⌝ }
+    ensures { λ n. ⌜ n ≡ usesOf r k ⌝ }
+{
+    let count = r.count as usize;
+    let mut n: usize = 0;
+    for j in 0..count {
+        let row = r.rows[j];
+        let part = row.part;
+        n = n + names(part, k);
+    }
+    n
+}
+
+pub(crate) fn used_once(r: Record) -> Answer
+    requires { ⌜ (0 < r .count) × (r .count ≤ rowLimit) ⌝ }
+    ensures { λ a. ⌜ handed a ≡ numbered 6 (usedOnce r) ⌝ }
+{
+    let last = r.count - 1;
+    for k in 0..last {
+        if uses(r, k) != 1 {
+            return Answer::Tree(k);
+        }
+    }
+    Answer::Done
+}
+
+fn is_input(p: Part) -> bool
+    ensures { λ b. ⌜ b ≡ isInput p ⌝ }
+{
+    match p {
+        Part::Blank => false,
+        Part::Leaf(e) => is_source(e),
+        Part::Adaptor(_) => false,
+    }
+}
+
+fn is_source(e: Element) -> bool
+    ensures { λ b. ⌜ b ≡ isInput (Part.Leaf e) ⌝ }
+{
+    match e {
+        Element::Resistor(_) => false,
+        Element::Capacitor(_) => false,
+        Element::Inductor(_) => false,
+        Element::Input(_) => true,
+        Element::Steady(_, _) => false,
+    }
+}
+
+fn inputs(r: Record) -> usize
+    requires { ⌜ r .count ≤ rowLimit ⌝ }
+    ensures { λ n. ⌜ n ≡ inputsOf r ⌝ }
+{
+    let count = r.count as usize;
+    let mut n: usize = 0;
+    for j in 0..count {
+        let row = r.rows[j];
+        let part = row.part;
+        n = n + one_if(is_input(part));
+    }
+    n
+}
+
+fn is_leaf(p: Part) -> bool
+    ensures { λ b. ⌜ b ≡ isLeaf p ⌝ }
+{
+    match p {
+        Part::Blank => false,
+        Part::Leaf(_) => true,
+        Part::Adaptor(_) => false,
+    }
+}
+
+// No row past the last is a leaf.
+fn leaf_at(r: Record, j: usize) -> bool
+    ensures { λ b. ⌜ b ≡ isLeaf (partAt r j) ⌝ }
+{
+    if j < ROWS {
+        let row = r.rows[j];
+        let part = row.part;
+        is_leaf(part)
+    } else {
+        false
+    }
+}
+
+pub(crate) fn input_and_tap(r: Record) -> Answer
+    requires { ⌜ r .count ≤ rowLimit ⌝ }
+    ensures { λ a. ⌜ handed a ≡ numbered 6 (inputAndTap r) ⌝ }
+{
+    let tap = r.tap;
+    if (inputs(r) == 1) & ((tap == TOP) | leaf_at(r, tap as usize)) {
+        Answer::Done
+    } else {
+        Answer::Tree(TOP)
+    }
+}
