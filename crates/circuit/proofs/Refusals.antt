@@ -22,10 +22,10 @@ use Rattle.circuit.proofs.Circuits.{minus, ohms, input, resistor, capac
 
 -- ---- changed records
 
-atRate : ℕ → Record
-atRate n = record {
-  rate = n;
-  count = case1 .count;
+case1With : ℕ → ℕ → Record
+case1With rate count = record {
+  rate = rate;
+  count = count;
   tap = case1 .tap;
   rows = case1 .rows;
   kind = case1 .kind;
@@ -34,17 +34,11 @@ atRate n = record {
   resistance = case1 .resistance;
 }
 
+atRate : ℕ → Record
+atRate rate = case1With rate 3
+
 counting : ℕ → Record
-counting n = record {
-  rate = case1 .rate;
-  count = n;
-  tap = case1 .tap;
-  rows = case1 .rows;
-  kind = case1 .kind;
-  width = case1 .width;
-  columns = case1 .columns;
-  resistance = case1 .resistance;
-}
+counting count = case1With 48000 count
 
 -- parts at 48,000 Hz with curve K and a curve resistance
 parts : List Part → ℕ → Float → Record
@@ -176,7 +170,7 @@ records =
     ∷ []
 
 records-refused : map (λ (l : Line). l .found) records ≡ map (λ (l : Line). l .paper) records
-unfolding working records atRate counting parts pair
+unfolding working records case1With atRate counting parts pair
 records-refused = refl
 
 -- numbers 12 to 15 of a run

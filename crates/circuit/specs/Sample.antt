@@ -139,16 +139,20 @@ rounded r = record {
 abbrev pub exactly : ℕ → Fraction → Fraction
 exactly g t = times (pos g) parts (omega arith) t
 
-abbrev pub unrounded : Record → Arithmetic
-unrounded r = record {
+-- with a diode that answers by a line
+abbrev pub fractions : (Fraction → Fraction) → Arithmetic
+fractions answer = record {
   Wave = Fraction;
   microvolts = whole;
   _plus_ = _+F_;
   minus = negF;
   join = λ g a1 a2. a2 +F exactly g (a1 -F a2);
   split = λ g a1 a2 a3. a1 -F exactly g (a1 +F a2 +F a3);
-  answer = line r;
+  answer = answer;
 }
+
+abbrev pub unrounded : Record → Arithmetic
+unrounded r = fractions (line r)
 
 -- ---- the engine's sample
 

@@ -16,7 +16,7 @@ use Rattle.circuit.specs.Numbers.{done}
 use Rattle.circuit.specs.Record.{rowLimit, sourceLimit, top, partAt, treeOf}
 use Rattle.circuit.specs.SetUp.{parts, ratioAt, setUpReport}
 use Rattle.circuit.specs.Curve.{line, reflected}
-use Rattle.circuit.specs.Sample.{Arithmetic, sends, stores, partSends, partStores, sent, risen, arriving, kept, output, h, rounded, finished, refused, storedAt, inLimit, sampled}
+use Rattle.circuit.specs.Sample.{Arithmetic, fractions, sends, stores, partSends, partStores, sent, risen, arriving, kept, output, h, rounded, finished, refused, storedAt, inLimit, sampled}
 use Rattle.circuit.specs.declared.Element.{Element}
 use Rattle.circuit.specs.declared.Element.the-variants.{Resistor, Capacitor, Inductor, Input, Steady}
 use Rattle.circuit.specs.declared.Part.{Part}
@@ -28,7 +28,7 @@ use Rattle.laws.proofs.Counting.{getD-table}
 use Rattle.laws.proofs.Drawn.{line-moves, answer-near}
 use Rattle.laws.proofs.Adaptors.{joined-rounds, parted-rounds}
 use Rattle.laws.proofs.Reflectance.{Echo, echo-leaf, echo-diode}
-use Rattle.theorems.specs.Rounding.{Rounding, wholeWaves, fractions, ErrsByOne, Gently}
+use Rattle.theorems.specs.Rounding.{Rounding, wholeWaves, ErrsByOne, Gently}
 use Rattle.theorems.specs.Limit.{limit, adaptorsOf, Within}
 use Rattle.theorems.proofs.Straying.{parts-above-zero, near-either, up-near, reach-near}
 

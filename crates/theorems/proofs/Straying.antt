@@ -9,12 +9,12 @@ use Rattle.whole.specs.Fraction.{Fraction}
 use Rattle.whole.specs.Nearness.{Near, near-le, near-neg, near-add}
 use Rattle.circuit.specs.Record.{Tree, leaf, adaptor, adaptors}
 use Rattle.circuit.specs.SetUp.{parts}
-use Rattle.circuit.specs.Sample.{Arithmetic, holds, sendsUp, sendsFirst, sendsSecond, up, reach}
+use Rattle.circuit.specs.Sample.{Arithmetic, fractions, holds, sendsUp, sendsFirst, sendsSecond, up, reach}
 use Rattle.circuit.specs.declared.Join.{Join}
 use Rattle.circuit.specs.declared.Join.the-variants.{Series, Parallel}
 use Rattle.laws.proofs.Reflectance.{Echo, echo-leaf}
 use Rattle.laws.proofs.Adaptors.{joined-near, parallel-first, parallel-second, series-first, series-second}
-use Rattle.theorems.specs.Rounding.{Rounding, wholeWaves, fractions, ErrsByOne}
+use Rattle.theorems.specs.Rounding.{Rounding, wholeWaves, ErrsByOne}
 
 -- as the definitions have it
 abbrev pub parts-above-zero : zero < parts

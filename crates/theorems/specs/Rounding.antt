@@ -1,9 +1,9 @@
 -- A sample in whole microvolts with any rounding, and what a bound on its errors asks of the rounding and of the curve.
 use Prim.Native.Nat.{ℕ}
 use lib.IntN.{ℤ, _+ℤ_, negℤ}
-use Rattle.whole.specs.Fraction.{Fraction, whole, _+F_, negF, _-F_}
+use Rattle.whole.specs.Fraction.{Fraction, whole, _-F_}
 use Rattle.whole.specs.Nearness.{NoFurther, Near}
-use Rattle.circuit.specs.Sample.{Arithmetic, exactly}
+use Rattle.circuit.specs.Sample.{Arithmetic, fractions}
 
 -- What is rounded: the wave that a parallel adaptor sends up, the one that a series adaptor sends its first child, and the diode's
 -- answer. Everything else in a sample is a sum or an opposite, and exact.
@@ -14,18 +14,6 @@ pub record Rounding : Type 0 where
 
 abbrev pub wholeWaves : Rounding → Arithmetic
 wholeWaves ρ = record { Wave = ℤ; microvolts = λ z. z; _plus_ = _+ℤ_; minus = negℤ; join = ρ .join; split = ρ .split; answer = ρ .answer }
-
--- the same sample with nothing rounded, over any curve
-abbrev pub fractions : (Fraction → Fraction) → Arithmetic
-fractions curve = record {
-  Wave = Fraction;
-  microvolts = whole;
-  _plus_ = _+F_;
-  minus = negF;
-  join = λ g p1 p2. p2 +F exactly g (p1 -F p2);
-  split = λ g p1 p2 p3. p1 -F exactly g (p1 +F p2 +F p3);
-  answer = curve;
-}
 
 -- at the same whole waves, each of the three is within one of the unrounded value
 pub record ErrsByOne (ρ : Rounding) (curve : Fraction → Fraction) : Type 0 where
