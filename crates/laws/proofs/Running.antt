@@ -18,6 +18,7 @@ use Rattle.circuit.specs.SetUp.{setUpRules, setUpReport}
 use Rattle.circuit.specs.Sample.{refused, finished, sampled}
 use Rattle.circuit.specs.Run.{Played, stopped, play, Call, storedWaves, lengths, runRules, Ran, placed, worked, turnedAway, ran}
 use Rattle.circuit.specs.declared.Record.{Record}
+use Rattle.laws.specs.Call.{call}
 use Rattle.laws.proofs.Counting.{unless-passes, passes-lowest}
 use Rattle.laws.proofs.Judging.{judge-rest, judge-stop, judge-of, zero-pass, pass-of, pass-done, passed-pass, done-passed, set-up-done}
 use Rattle.laws.proofs.Playing.{refused-above, play-refused, play-finished, _followedBy_, play-on, play-length, play-keeps, stored-sound}
@@ -63,11 +64,10 @@ allowed-done c h =
     ∙ pass-done (rule 12 storedWaves ∷ rule 13 lengths ∷ []) c (h .waves, (ap (λ (b : Bool). unless b 0) (eq-eqb _ _ (h .equal)), tt))
 
 -- the waves after samples pass rule 12 where those before them do
-pub waves-after : (r : Record) (xs os : List ℤ) (ws ys : List ℤ) → storedWaves (record { circuit = r; waves = ws; input = xs; output = os }) ≡ passes
-    → storedWaves (record { circuit = r; waves = play r ws ys .waves; input = xs; output = os }) ≡ passes
+pub waves-after : (r : Record) (xs os ws ys : List ℤ) → storedWaves (call r ws xs os) ≡ passes → storedWaves (call r (play r ws ys .waves) xs os) ≡ passes
 unfolding storedWaves
 waves-after r xs os =
-    play-keeps r (λ ws. storedWaves (record { circuit = r; waves = ws; input = xs; output = os }) ≡ passes)
+    play-keeps r (λ ws. storedWaves (call r ws xs os) ≡ passes)
     (λ ws x v next e. passes-lowest _ rowLimit (λ j l. ap not (stored-sound r ws x v next e j l)))
 
 -- ---- what a run hands back and leaves

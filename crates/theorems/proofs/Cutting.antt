@@ -13,10 +13,11 @@ use Rattle.circuit.specs.Numbers.{judge, Verdict, passes, fails, rule}
 use Rattle.circuit.specs.SetUp.{setUpReport}
 use Rattle.circuit.specs.Run.{Played, play, Call, storedWaves, lengths, runRules, Ran, placed, worked, turnedAway, ran}
 use Rattle.circuit.specs.declared.Record.{Record}
+use Rattle.laws.specs.Call.{call}
 use Rattle.laws.proofs.Judging.{judge-fail, set-up-done}
 use Rattle.laws.proofs.Playing.{_followedBy_, play-on, play-stop, play-number, play-short, play-length}
 use Rattle.laws.proofs.Running.{judge-set-up, judge-after, Allowed, zero-allowed, allowed-done, waves-after, ran-refused, placed-above, ran-worked}
-use Rattle.theorems.specs.Pieces.{call, later, both, alone, inTurn, Piece, allInput, allOutput, inPieces}
+use Rattle.theorems.specs.Pieces.{later, both, alone, inTurn, Piece, allInput, allOutput, inPieces}
 
 -- ---- one run and the next
 

@@ -8,11 +8,9 @@ use lib.Dec.{eqb, ltb}
 use lib.ListN.{length}
 use lib.IntN.{ℤ}
 use Rattle.circuit.specs.Numbers.{Report, report}
-use Rattle.circuit.specs.Run.{Call, Ran, ran}
+use Rattle.circuit.specs.Run.{Ran, ran}
 use Rattle.circuit.specs.declared.Record.{Record}
-
-abbrev pub call : Record → List ℤ → List ℤ → List ℤ → Call
-call r ws xs os = record { circuit = r; waves = ws; input = xs; output = os }
+use Rattle.laws.specs.Call.{call}
 
 -- a report of samples that begin m after the first; the place of 14 and 15 is a sample's index
 abbrev pub later : ℕ → Report → Report

@@ -1,0 +1,148 @@
+-- What reading and writing hand back, step by step: the rules of the bytes first, then set-up's.
+use mathlib.Core.Path.{_≡_, refl, sym, ap, _∙_}
+use Prim.Native.Nat.{ℕ, zero, suc, _<_}
+use native.Mathlib.Decide.{ℕ-discrete}
+use native.Mathlib.Omega.{arith}
+use borrow.Author.Tests.{eqb-true, eq-eqb, ne-eqb, not-false}
+use mathlib.Core.Bool.{true, false, not}
+use mathlib.Core.List.{List, [], _∷_}
+use lib.Dec.{lit<}
+use lib.ListN.{length}
+use Rattle.circuit.specs.Numbers.{report, done, rule, judge, unless, passes}
+use Rattle.circuit.specs.SetUp.{setUpRules, setUpReport}
+use Rattle.circuit.specs.File.{numberAt, checkOf, blockAt, fileLengthRule, checks, versionRule, unused, recordOf, noRecord, readRules, readReport, readRecord, Written, writeRules, writeReport, bufferAfter, fileOf}
+use Rattle.laws.proofs.Counting.{unless-passes, lowest-passes, passes-lowest}
+use Rattle.laws.proofs.Judging.{Pass, Numbered, judge-pass, judge-fail, judge-at, judge-rest, judge-stop, judge-of, pass-done, zero-pass}
+use Rattle.file.specs.Placing.{wrongBlock, clearFile, fileRules}
+
+file-numbered : Numbered fileRules
+unfolding fileRules
+file-numbered = (lit< tt, (lit< tt, (lit< tt, (lit< tt, tt))))
+
+-- ---- the rules of the bytes
+
+module _ (s : List ℕ) where
+  pub length-stop : (length s ≡ 1536 → ⊥) → judge fileRules s ≡ report 1 0
+  unfolding fileRules fileLengthRule
+  length-stop e = judge-fail _ _ s 0 (ap (λ b. unless b 0) (ne-eqb _ _ e))
+
+  module _ (long : length s ≡ 1536) where
+    long-passes : fileLengthRule s ≡ passes
+    unfolding fileLengthRule
+    long-passes = ap (λ b. unless b 0) (eq-eqb _ _ long)
+
+    pub checks-stop : (judge (rule 2 checks ∷ []) s .number ≡ 0 → ⊥) → judge fileRules s ≡ judge (rule 2 checks ∷ []) s
+    unfolding fileRules
+    checks-stop e = judge-pass _ _ s long-passes ∙ judge-stop (rule 2 checks ∷ []) (rule 3 versionRule ∷ rule 4 unused ∷ []) s (omega arith)
+
+    module _ (right : judge (rule 2 checks ∷ []) s .number ≡ 0) where
+      checks-pass : Pass (rule 1 fileLengthRule ∷ rule 2 checks ∷ []) s
+      checks-pass = (long-passes, zero-pass (rule 2 checks ∷ []) s (lit< tt, tt) right)
+
+      pub version-stop : (numberAt 2 0 s ≡ 1 → ⊥) → judge fileRules s ≡ report 3 0
+      unfolding fileRules versionRule
+      version-stop e =
+          judge-at (rule 1 fileLengthRule ∷ rule 2 checks ∷ []) (rule 3 versionRule) (rule 4 unused ∷ []) s 0 checks-pass (ap (λ b. unless b 0) (ne-eqb _ _ e))
+
+      module _ (first : numberAt 2 0 s ≡ 1) where
+        version-pass : Pass (rule 1 fileLengthRule ∷ rule 2 checks ∷ rule 3 versionRule ∷ []) s
+        unfolding versionRule
+        version-pass = (checks-pass .0, (checks-pass .1 .0, (ap (λ b. unless b 0) (eq-eqb _ _ first), tt)))
+
+        pub unused-stop : clearFile s ≡ false → judge fileRules s ≡ report 4 0
+        unfolding fileRules unused
+        unused-stop e = judge-at (rule 1 fileLengthRule ∷ rule 2 checks ∷ rule 3 versionRule ∷ []) (rule 4 unused) [] s 0 version-pass (ap (λ b. unless b 0) e)
+
+        pub file-done : clearFile s ≡ true → judge fileRules s ≡ done
+        unfolding fileRules unused
+        file-done e = pass-done fileRules s (version-pass .0, (version-pass .1 .0, (version-pass .1 .1 .0, (ap (λ b. unless b 0) e, tt))))
+
+-- ---- reading
+
+module _ (s : List ℕ) where
+  pub judged-length : judge fileRules s .number ≡ 0 → length s ≡ 1536
+  unfolding fileRules fileLengthRule
+  judged-length e = eqb-true (length s) 1536 (unless-passes _ 0 (zero-pass fileRules s file-numbered e .0))
+
+  -- the bytes are refused
+  pub read-stop : (judge fileRules s .number ≡ 0 → ⊥) → readReport s ≡ judge fileRules s
+  unfolding readReport readRules fileRules
+  read-stop e = judge-stop fileRules _ s (omega arith)
+
+  -- the bytes are accepted
+  pub read-on : judge fileRules s .number ≡ 0 → readReport s ≡ setUpReport (recordOf s)
+  unfolding readReport readRules fileRules setUpReport
+  read-on e = judge-rest fileRules _ s (zero-pass fileRules s file-numbered e) ∙ judge-of recordOf setUpRules s
+
+  pub record-read : readReport s .number ≡ 0 → readRecord s ≡ recordOf s
+  unfolding readRecord
+  record-read e = rw (eq-eqb _ _ e)
+
+  pub record-refused : (readReport s .number ≡ 0 → ⊥) → readRecord s ≡ noRecord
+  unfolding readRecord
+  record-refused e = rw (ne-eqb _ _ e)
+
+  -- where reading hands back 0, the bytes are accepted
+  pub read-judged : readReport s .number ≡ 0 → judge fileRules s .number ≡ 0
+  read-judged e = by (judge fileRules s .number) refl
+    where
+      by : (n : ℕ) → judge fileRules s .number ≡ n → judge fileRules s .number ≡ 0
+      by zero q = q
+      by (suc n) q = absurd (let r = ap (λ m. m .number) (read-stop (λ z. omega arith)) in omega arith)
+
+-- what accepted bytes are
+pub record Sound (s : List ℕ) : Type 0 where
+  pub long : length s ≡ 1536
+  pub right : (k : ℕ) → k < 3 → numberAt 4 508 (blockAt k s) ≡ checkOf k (blockAt k s)
+  pub version : numberAt 2 0 s ≡ 1
+  pub clear : clearFile s ≡ true
+
+pub judged-sound : (s : List ℕ) → judge fileRules s .number ≡ 0 → Sound s
+unfolding fileRules fileLengthRule checks versionRule unused
+judged-sound s e =
+    let p = zero-pass fileRules s file-numbered e in
+    record {
+      long = judged-length s e;
+      right = λ k h. eqb-true _ _ (not-false _ (lowest-passes (wrongBlock s) 3 (p .1 .0) k h));
+      version = eqb-true _ _ (unless-passes _ 0 (p .1 .1 .0));
+      clear = unless-passes _ 0 (p .1 .1 .1 .0);
+    }
+
+pub sound-judged : (s : List ℕ) → Sound s → judge fileRules s .number ≡ 0
+unfolding fileRules fileLengthRule checks versionRule unused
+sound-judged s h =
+    ap (λ n. n .number)
+    (pass-done fileRules s (
+      ap (λ b. unless b 0) (eq-eqb _ _ (h .long)),
+      (
+        passes-lowest (wrongBlock s) 3 (λ k l. ap not (eq-eqb _ _ (h .right k l))),
+        (ap (λ b. unless b 0) (eq-eqb _ _ (h .version)), (ap (λ b. unless b 0) (h .clear), tt)),
+      ),
+    ))
+
+-- ---- writing
+
+module _ (w : Written) where
+  pub write-stop : (length (w .buffer) ≡ 1536 → ⊥) → writeReport w ≡ report 1 0
+  unfolding writeReport writeRules fileLengthRule
+  write-stop e = judge-fail _ _ w 0 (ap (λ b. unless b 0) (ne-eqb _ _ e))
+
+  pub write-on : length (w .buffer) ≡ 1536 → writeReport w ≡ setUpReport (w .circuit)
+  unfolding writeReport writeRules fileLengthRule setUpReport
+  write-on e = judge-pass _ _ w (ap (λ b. unless b 0) (eq-eqb _ _ e)) ∙ judge-of (λ v. v .circuit) setUpRules w
+
+  -- where writing hands back 0, the buffer has a file's length
+  pub written-length : writeReport w ≡ done → length (w .buffer) ≡ 1536
+  written-length e = by (ℕ-discrete (length (w .buffer)) 1536)
+    where
+      by : Dec (length (w .buffer) ≡ 1536) → length (w .buffer) ≡ 1536
+      by (yes q) = q
+      by (no q) = absurd (let z : _≡_ {A = ℕ} 1 0 = ap (λ m. m .number) (sym (write-stop q) ∙ e) in omega arith)
+
+  pub buffer-written : writeReport w .number ≡ 0 → bufferAfter w ≡ fileOf (w .circuit)
+  unfolding bufferAfter
+  buffer-written e = rw (eq-eqb _ _ e)
+
+  pub buffer-left : (writeReport w .number ≡ 0 → ⊥) → bufferAfter w ≡ w .buffer
+  unfolding bufferAfter
+  buffer-left e = rw (ne-eqb _ _ e)

@@ -1,0 +1,13 @@
+pub mod Digits
+pub mod Patterns
+pub mod Placed
+pub mod Blocks
+pub mod Tables
+pub mod Sizes
+pub mod Fields
+pub mod Judged
+pub mod Clear
+pub mod RowTrips
+pub mod ColumnTrips
+pub mod HeadingTrips
+pub mod RoundTrips

@@ -1,0 +1,26 @@
+-- Each of the two is read back from its bits as it is.
+use borrow.Author.Needs.{needs}
+use mir.Syntax.{w32}
+use mir.ValLaws.{toZ-ofZ}
+use Rattle.file.proofs.column.column_from.Statement.{statement}
+use Rattle.file.proofs.column.column_from.Tie as tie
+
+signed-requires : tie.Need-signed-requires
+signed-requires c κs = search needs
+
+add-signed : tie.Need-add-signed
+add-signed c = search needs
+
+signed-requires-2 : tie.Need-signed-requires-2
+signed-requires-2 c κs = search needs
+
+returns : tie.Need-returns
+returns c = rw (
+  toZ-ofZ w32 (c .before .signed .result) (record { sfits = c .before .signed .ok }),
+  toZ-ofZ w32 (c .signed2 .result) (record { sfits = c .signed2 .ok }),
+  c .before .signed .ensures,
+  c .signed2 .ensures,
+)
+
+pub column-from-spec : {M : Type 1} → statement M
+column-from-spec = tie.close (tie.spec signed-requires add-signed signed-requires-2 returns)

@@ -1,0 +1,60 @@
+-- y is placed where x ends.
+use mathlib.Core.Path.{ap, _∙_}
+use native.Mathlib.Omega.{arith}
+use borrow.Author.Needs.{needs}
+use mir.Syntax.{w32}
+use mir.Val.{SFits, ofZ}
+use mir.ValLaws.{toZ-ofZ}
+use Rattle.file.proofs.Fields.{column-placed}
+use Rattle.file.proofs.column.put_column.Statement.{statement}
+use Rattle.file.proofs.column.put_column.Tie as tie
+
+pattern-requires : tie.Need-pattern-requires
+pattern-requires c κs = search needs
+
+pattern-requires-2 : tie.Need-pattern-requires-2
+pattern-requires-2 c κs = search needs
+
+cast-put : tie.Need-cast-put
+cast-put c = search needs
+
+put-requires : tie.Need-put-requires
+put-requires c κs = search needs
+
+add-put : tie.Need-add-put
+add-put c = search needs
+
+cast-put-2 : tie.Need-cast-put-2
+cast-put-2 c = search needs
+
+put-requires-2 : tie.Need-put-requires-2
+put-requires-2 c κs = search needs
+
+same-length : tie.Need-same-length
+same-length c = search needs
+
+returns : tie.Need-returns
+returns c =
+    let second = c .before .before in
+    let first = second .before .before .before .before in
+    let y = first .before .before in
+    let x = y .before .before in
+    let a = x .before .before .before .args in
+    let fx : SFits w32 (a .c .x) = search needs in
+    let fy : SFits w32 (a .c .y) = search needs in
+    column-placed (a .b .now) (a .at) (omega arith) (a .c) _ _ _ _
+    (x .pattern .ensures ∙ ap (ofZ w32) (toZ-ofZ w32 (a .c .x) fx)) (y .pattern2 .ensures ∙ ap (ofZ w32) (toZ-ofZ w32 (a .c .y) fy)) (first .put .ensures) (second .put2 .ensures)
+
+pub put-column-spec : {M : Type 1} → statement M
+put-column-spec =
+    tie.close
+    (tie.spec
+    pattern-requires
+    pattern-requires-2
+    cast-put
+    put-requires
+    add-put
+    cast-put-2
+    put-requires-2
+    same-length
+    returns)

@@ -1,0 +1,80 @@
+-- The loop has placed the first j rows, one after another, in a new block.
+use mathlib.Core.Path.{_≡_, refl, _∙_}
+use Prim.Native.Nat.{_-_, _*_, _≤_, zero-le}
+use native.Mathlib.Omega.{arith}
+use borrow.Author.Needs.{needs}
+use mathlib.Core.List.{map}
+use lib.ListN.{length, take}
+use Rattle.circuit.specs.File.{joined}
+use Rattle.file.specs.Placing.{rowBytes}
+use Rattle.file.proofs.Placed.{Begun, begun-none}
+use Rattle.file.proofs.Blocks.{begun-sealed}
+use Rattle.file.proofs.Tables.{pieces-none, pieces-more, pieces-all}
+use Rattle.file.proofs.Sizes.{row-size}
+use Rattle.file.proofs.row.row_block.Statement.{statement}
+use Rattle.file.proofs.row.row_block.Tie as tie
+
+abbrev Inv-loop : tie.InvT-loop
+Inv-loop rows b₀ j₀ b j = (j ≤ 31) × (length b ≡ 512) × Begun (16 * j) b (joined (map rowBytes (take j rows)))
+
+abbrev μ-loop : tie.MeasureT-loop
+μ-loop rows b₀ j₀ b j = 31 - j
+
+loop-holds : tie.Need-loop-holds Inv-loop μ-loop
+loop-holds c = (zero-le, refl, pieces-none rowBytes 16 row-size (c .args .t1) _ begun-none)
+
+mul-row : tie.Need-mul-row Inv-loop μ-loop
+mul-row c = omega arith
+
+array-copy-out-row : tie.Need-array-copy-out-row Inv-loop μ-loop
+array-copy-out-row c = omega arith
+
+slice-aggregate-put-part : tie.Need-slice-aggregate-put-part Inv-loop μ-loop
+slice-aggregate-put-part c = search needs
+
+mul-put-part : tie.Need-mul-put-part Inv-loop μ-loop
+mul-put-part c = omega arith
+
+put-part-requires : tie.Need-put-part-requires Inv-loop μ-loop
+put-part-requires c κs = omega arith
+
+add-j : tie.Need-add-j Inv-loop μ-loop
+add-j c = omega arith
+
+loop-less : tie.Need-loop-less Inv-loop μ-loop
+loop-less c = omega arith
+
+loop-again : tie.Need-loop-again Inv-loop μ-loop
+loop-again c =
+    let l = c .before .before .before .before .before .loop in
+    let rows = c .before .before .before .before .before .before .args .t1 in (
+      omega arith,
+      c .before .put-part .kept .0 ∙ l .inv .1,
+      rw (c .before .put-part .ensures) (pieces-more rowBytes 16 row-size rows (l .b) (l .j) _ (search needs) (l .inv .2)),
+    )
+
+seal-requires : tie.Need-seal-requires Inv-loop μ-loop
+seal-requires c κs = search needs
+
+returns : tie.Need-returns Inv-loop μ-loop
+returns c =
+    let l = c .before .before .loop in
+    c .seal .ensures ∙ begun-sealed 1 (pieces-all rowBytes 16 row-size (c .before .before .before .args .t1) (l .b) (l .j) 31 (omega arith) (search needs) (l .inv .2)) (omega arith)
+
+pub row-block-spec : {M : Type 1} → statement M
+row-block-spec =
+    tie.close
+    (tie.spec
+    Inv-loop
+    μ-loop
+    loop-holds
+    mul-row
+    array-copy-out-row
+    slice-aggregate-put-part
+    mul-put-part
+    put-part-requires
+    add-j
+    loop-less
+    loop-again
+    seal-requires
+    returns)

@@ -1,0 +1,69 @@
+-- The loop has filled the first j rows of the table.
+use mathlib.Core.Path.{_≡_, refl}
+use Prim.Native.Nat.{_-_, _≤_, zero-le}
+use native.Mathlib.Omega.{arith}
+use lib.ListN.{length, take, length-set}
+use Rattle.circuit.specs.Counting.{table}
+use Rattle.circuit.specs.File.{rowFrom, rowPlace}
+use Rattle.file.proofs.Tables.{table-more, table-whole}
+use Rattle.file.proofs.row.rows.Statement.{statement}
+use Rattle.file.proofs.row.rows.Tie as tie
+
+abbrev Inv-loop : tie.InvT-loop
+Inv-loop s rows₀ j₀ rows j = (j ≤ 31) × (length rows ≡ 31) × (take j rows ≡ table (λ k. rowFrom (rowPlace k) s) j)
+
+abbrev μ-loop : tie.MeasureT-loop
+μ-loop s rows₀ j₀ rows j = 31 - j
+
+loop-holds : tie.Need-loop-holds Inv-loop μ-loop
+unfolding table
+loop-holds c = (zero-le, refl, refl)
+
+mul-row-from : tie.Need-mul-row-from Inv-loop μ-loop
+mul-row-from c = omega arith
+
+add-row-from : tie.Need-add-row-from Inv-loop μ-loop
+add-row-from c = omega arith
+
+row-from-requires : tie.Need-row-from-requires Inv-loop μ-loop
+row-from-requires c κs = omega arith
+
+mul-rows : tie.Need-mul-rows Inv-loop μ-loop
+mul-rows c = omega arith
+
+array-set-from-rows : tie.Need-array-set-from-rows Inv-loop μ-loop
+array-set-from-rows c = omega arith
+
+add-j : tie.Need-add-j Inv-loop μ-loop
+add-j c = omega arith
+
+loop-less : tie.Need-loop-less Inv-loop μ-loop
+loop-less c = omega arith
+
+loop-again : tie.Need-loop-again Inv-loop μ-loop
+loop-again c =
+    let l = c .before .before .loop in
+    let s = c .before .before .before .before .args .s .now in
+    (omega arith, rw length-set (l .inv .1), rw (c .row-from .ensures) (table-more (λ k. rowFrom (rowPlace k) s) (l .rows) (l .j) (omega arith) (l .inv .2)))
+
+returns : tie.Need-returns Inv-loop μ-loop
+returns c =
+    let l = c .before .loop in
+    table-whole _ (l .rows) (l .j) 31 (omega arith) (l .inv .1) (l .inv .2)
+
+pub rows-spec : {M : Type 1} → statement M
+rows-spec =
+    tie.close
+    (tie.spec
+    Inv-loop
+    μ-loop
+    loop-holds
+    mul-row-from
+    add-row-from
+    row-from-requires
+    mul-rows
+    array-set-from-rows
+    add-j
+    loop-less
+    loop-again
+    returns)

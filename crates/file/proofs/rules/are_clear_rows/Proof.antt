@@ -1,0 +1,58 @@
+-- The loop has found whether the first j rows are clear.
+use mathlib.Core.Path.{_≡_, refl}
+use Prim.Native.Nat.{_-_, _≤_, zero-le}
+use native.Mathlib.Omega.{arith}
+use Rattle.circuit.specs.Counting.{every}
+use Rattle.circuit.specs.File.{numberAt, clearRow, rowPlace}
+use Rattle.laws.proofs.Counting.{every-step}
+use Rattle.file.proofs.rules.are_clear_rows.Statement.{statement}
+use Rattle.file.proofs.rules.are_clear_rows.Tie as tie
+
+abbrev Inv-loop : tie.InvT-loop
+Inv-loop s clear₀ j₀ clear j = (j ≤ 31) × (clear ≡ every (λ k. clearRow (numberAt 1 (rowPlace k) s) (rowPlace k) s) j)
+
+abbrev μ-loop : tie.MeasureT-loop
+μ-loop s clear₀ j₀ clear j = 31 - j
+
+loop-holds : tie.Need-loop-holds Inv-loop μ-loop
+unfolding every
+loop-holds c = (zero-le, refl)
+
+mul-is-clear-row : tie.Need-mul-is-clear-row Inv-loop μ-loop
+mul-is-clear-row c = omega arith
+
+add-is-clear-row : tie.Need-add-is-clear-row Inv-loop μ-loop
+add-is-clear-row c = omega arith
+
+is-clear-row-requires : tie.Need-is-clear-row-requires Inv-loop μ-loop
+is-clear-row-requires c κs = omega arith
+
+add-j : tie.Need-add-j Inv-loop μ-loop
+add-j c = omega arith
+
+loop-less : tie.Need-loop-less Inv-loop μ-loop
+loop-less c = omega arith
+
+loop-again : tie.Need-loop-again Inv-loop μ-loop
+loop-again c = (omega arith, rw (every-step, c .before .before .loop .inv .1, c .is-clear-row .ensures))
+
+returns : tie.Need-returns Inv-loop μ-loop
+returns c =
+    let l = c .before .loop in
+    let e : l .j ≡ 31 = omega arith in
+    rw e at (l .inv .1)
+
+pub are-clear-rows-spec : {M : Type 1} → statement M
+are-clear-rows-spec =
+    tie.close
+    (tie.spec
+    Inv-loop
+    μ-loop
+    loop-holds
+    mul-is-clear-row
+    add-is-clear-row
+    is-clear-row-requires
+    add-j
+    loop-less
+    loop-again
+    returns)

@@ -1,0 +1,65 @@
+// Block 2: 62 columns of eight bytes, x then y.
+use crate::block;
+use crate::bytes;
+use circuit::COLUMNS;
+use circuit::Column;
+ghost use mathlib.Core.Path.{_≡_};
+ghost use mathlib.Core.List.{map};
+ghost use Prim.Native.Nat.{_+_, _≤_};
+ghost use lib.ListN.{length};
+ghost use Rattle.circuit.specs.Counting.{table};
+ghost use Rattle.circuit.specs.Record.{columnLimit};
+ghost use Rattle.circuit.specs.File.{columnFrom, columnPlace, columnFields, joined, block};
+ghost use Rattle.file.specs.Placing.{placed};
+
+// How many bytes a column has; where column 0 stands in a file, and where the last one ends.
+pub(crate) const SIZE: usize = 8;
+
+pub(crate) const START: usize = 1024;
+
+pub(crate) const END: usize = START + SIZE * COLUMNS;
+
+fn column_from(s: &[u8], at: usize) -> Column
+    requires { ⌜ at + 8 ≤ length (now s) ⌝ }
+    ensures { λ r. ⌜ r ≡ columnFrom at (now (s .entry)) ⌝ }
+{
+    let x = bytes::signed(s, at);
+    let y = bytes::signed(s, at + 4);
+    Column { x, y }
+}
+
+pub(crate) fn columns(s: &[u8]) -> [Column; COLUMNS]
+    requires { ⌜ length (now s) ≡ 1536 ⌝ }
+    ensures { λ r. ⌜ r ≡ table (λ i. columnFrom (columnPlace i) (now (s .entry))) columnLimit ⌝ }
+{
+    let mut columns = [Column { x: 0, y: 0 }; COLUMNS];
+    let mut i: usize = 0;
+    while i < COLUMNS {
+        columns[i] = column_from(s, START + SIZE * i);
+        i += 1;
+    }
+    columns
+}
+
+fn put_column(b: &mut [u8], at: usize, c: Column)
+    requires { ⌜ at + 8 ≤ length (now b) ⌝ }
+    ensures { λ _. ⌜ now (b .exit) ≡ placed (now (b .entry)) at (columnFields c) ⌝ }
+{
+    let x = bytes::pattern(c.x);
+    let y = bytes::pattern(c.y);
+    bytes::put(b, at, 4, x as u64);
+    bytes::put(b, at + 4, 4, y as u64);
+}
+
+pub(crate) fn column_block(columns: [Column; COLUMNS]) -> [u8; 512]
+    ensures { λ b. ⌜ b ≡ block 2 (joined (map columnFields columns)) ⌝ }
+{
+    let mut b = [0u8; 512];
+    let mut i: usize = 0;
+    while i < COLUMNS {
+        let c = columns[i];
+        put_column(&mut b, SIZE * i, c);
+        i += 1;
+    }
+    block::seal(b, 2)
+}

@@ -1,0 +1,99 @@
+// Block 0, with the record that a whole file holds, and the record of zeros.
+use crate::block;
+use crate::bytes;
+use crate::column;
+use crate::row;
+use circuit::COLUMNS;
+use circuit::Column;
+use circuit::CurveKind;
+use circuit::Part;
+use circuit::ROWS;
+use circuit::Record;
+use circuit::Row;
+ghost use mathlib.Core.Path.{_≡_};
+ghost use lib.ListN.{length};
+ghost use Rattle.circuit.specs.File.{kindNumber, kindOf, heading, recordOf, noRecord, block};
+
+// The only version so far.
+pub(crate) const VERSION: u64 = 1;
+
+// A number past the list of kinds is read as unset, and refused elsewhere.
+fn kind_of(n: u8) -> CurveKind
+    ensures { λ r. ⌜ r ≡ kindOf n ⌝ }
+{
+    match n {
+        1 => CurveKind::Single,
+        2 => CurveKind::Pair,
+        _ => CurveKind::Unset,
+    }
+}
+
+fn kind_number(kind: CurveKind) -> u8
+    ensures { λ r. ⌜ r ≡ kindNumber kind ⌝ }
+{
+    match kind {
+        CurveKind::Unset => 0,
+        CurveKind::Single => 1,
+        CurveKind::Pair => 2,
+    }
+}
+
+pub(crate) fn heading_block(r: Record) -> [u8; 512]
+    ensures { λ b. ⌜ b ≡ block 0 (heading r) ⌝ }
+{
+    let kind = r.kind;
+    let number = kind_number(kind);
+    let resistance = bytes::bits(r.resistance);
+    let mut b = [0u8; 512];
+    bytes::put(&mut b, 0, 2, VERSION);
+    bytes::put(&mut b, 2, 1, r.count as u64);
+    bytes::put(&mut b, 3, 1, r.tap as u64);
+    bytes::put(&mut b, 4, 1, number as u64);
+    bytes::put(&mut b, 5, 1, r.width as u64);
+    bytes::put(&mut b, 8, 4, r.rate as u64);
+    bytes::put(&mut b, 16, 8, resistance);
+    block::seal(b, 0)
+}
+
+pub(crate) fn record_of(s: &[u8]) -> Record
+    requires { ⌜ length (now s) ≡ 1536 ⌝ }
+    ensures { λ r. ⌜ r ≡ recordOf (now (s .entry)) ⌝ }
+{
+    let rate = bytes::word(s, 8);
+    let count = bytes::byte(s, 2);
+    let tap = bytes::byte(s, 3);
+    let rows = row::rows(s);
+    let kind = kind_of(bytes::byte(s, 4));
+    let width = bytes::byte(s, 5);
+    let columns = column::columns(s);
+    let resistance = bytes::float(s, 16);
+    Record {
+        rate,
+        count,
+        tap,
+        rows,
+        kind,
+        width,
+        columns,
+        resistance,
+    }
+}
+
+// What a refused reading hands back.
+pub(crate) fn no_record() -> Record
+    ensures { λ r. ⌜ r ≡ noRecord ⌝ }
+{
+    let rows = [Row { part: Part::Blank }; ROWS];
+    let kind = CurveKind::Unset;
+    let columns = [Column { x: 0, y: 0 }; COLUMNS];
+    Record {
+        rate: 0,
+        count: 0,
+        tap: 0,
+        rows,
+        kind,
+        width: 0,
+        columns,
+        resistance: 0.0,
+    }
+}

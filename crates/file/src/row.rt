@@ -1,0 +1,137 @@
+// Block 1: 31 rows of 16 bytes: kind, first child, second child, a zero, steady microvolts, value. What a kind does not use is zero.
+use crate::block;
+use crate::bytes;
+use circuit::Adaptor;
+use circuit::Element;
+use circuit::Join;
+use circuit::Part;
+use circuit::ROWS;
+use circuit::Row;
+ghost use mathlib.Core.Path.{_≡_};
+ghost use mathlib.Core.List.{map};
+ghost use Prim.Native.Nat.{_+_, _≤_};
+ghost use lib.ListN.{length};
+ghost use Rattle.circuit.specs.Counting.{table};
+ghost use Rattle.circuit.specs.Record.{rowLimit};
+ghost use Rattle.circuit.specs.File.{bytes, rowFields, leafFields, partFields, joinNumber, partOf, rowFrom, rowPlace, joined, block};
+ghost use Rattle.file.specs.Placing.{placed, rowBytes};
+
+// How many bytes a row has; where row 0 stands in a file, and where the last one ends.
+pub(crate) const SIZE: usize = 16;
+
+pub(crate) const START: usize = 512;
+
+pub(crate) const END: usize = START + SIZE * ROWS;
+
+// The part of a kind's number; a number past the list of kinds is read as blank, and refused elsewhere.
+fn part_of(kind: u8, first: u8, second: u8, microvolts: i32, value: f64) -> Part
+    ensures { λ r. ⌜ r ≡ partOf kind first second microvolts value ⌝ }
+{
+    match kind {
+        1 => Part::Leaf(Element::Resistor(value)),
+        2 => Part::Leaf(Element::Capacitor(value)),
+        3 => Part::Leaf(Element::Inductor(value)),
+        4 => Part::Leaf(Element::Input(value)),
+        5 => Part::Leaf(Element::Steady(value, microvolts)),
+        6 => Part::Adaptor(Adaptor {
+            join: Join::Series,
+            first,
+            second,
+        }),
+        7 => Part::Adaptor(Adaptor {
+            join: Join::Parallel,
+            first,
+            second,
+        }),
+        _ => Part::Blank,
+    }
+}
+
+fn row_from(s: &[u8], at: usize) -> Row
+    requires { ⌜ at + 16 ≤ length (now s) ⌝ }
+    ensures { λ r. ⌜ r ≡ rowFrom at (now (s .entry)) ⌝ }
+{
+    let kind = bytes::byte(s, at);
+    let first = bytes::byte(s, at + 1);
+    let second = bytes::byte(s, at + 2);
+    let microvolts = bytes::signed(s, at + 4);
+    let value = bytes::float(s, at + 8);
+    let part = part_of(kind, first, second, microvolts, value);
+    Row { part }
+}
+
+pub(crate) fn rows(s: &[u8]) -> [Row; ROWS]
+    requires { ⌜ length (now s) ≡ 1536 ⌝ }
+    ensures { λ r. ⌜ r ≡ table (λ j. rowFrom (rowPlace j) (now (s .entry))) rowLimit ⌝ }
+{
+    let mut rows = [Row { part: Part::Blank }; ROWS];
+    let mut j: usize = 0;
+    while j < ROWS {
+        rows[j] = row_from(s, START + SIZE * j);
+        j += 1;
+    }
+    rows
+}
+
+fn put_fields(b: &mut [u8], at: usize, kind: u8, first: u8, second: u8, microvolts: i32, value: u64)
+    requires { ⌜ at + 16 ≤ length (now b) ⌝ }
+    ensures { λ _. ⌜ now (b .exit) ≡ placed (now (b .entry)) at (rowFields kind first second microvolts (bytes 8 value)) ⌝ }
+{
+    let pattern = bytes::pattern(microvolts);
+    bytes::put(b, at, 1, kind as u64);
+    bytes::put(b, at + 1, 1, first as u64);
+    bytes::put(b, at + 2, 1, second as u64);
+    bytes::put(b, at + 3, 1, 0);
+    bytes::put(b, at + 4, 4, pattern as u64);
+    bytes::put(b, at + 8, 8, value);
+}
+
+fn put_leaf(b: &mut [u8], at: usize, e: Element)
+    requires { ⌜ at + 16 ≤ length (now b) ⌝ }
+    ensures { λ _. ⌜ now (b .exit) ≡ placed (now (b .entry)) at (leafFields e) ⌝ }
+{
+    match e {
+        Element::Resistor(r) => put_fields(b, at, 1, 0, 0, 0, bytes::bits(r)),
+        Element::Capacitor(c) => put_fields(b, at, 2, 0, 0, 0, bytes::bits(c)),
+        Element::Inductor(l) => put_fields(b, at, 3, 0, 0, 0, bytes::bits(l)),
+        Element::Input(r) => put_fields(b, at, 4, 0, 0, 0, bytes::bits(r)),
+        Element::Steady(r, v) => put_fields(b, at, 5, 0, 0, v, bytes::bits(r)),
+    }
+}
+
+fn join_number(k: Join) -> u8
+    ensures { λ r. ⌜ r ≡ joinNumber k ⌝ }
+{
+    match k {
+        Join::Series => 6,
+        Join::Parallel => 7,
+    }
+}
+
+fn put_part(b: &mut [u8], at: usize, part: Part)
+    requires { ⌜ at + 16 ≤ length (now b) ⌝ }
+    ensures { λ _. ⌜ now (b .exit) ≡ placed (now (b .entry)) at (partFields part) ⌝ }
+{
+    match part {
+        Part::Blank => put_fields(b, at, 0, 0, 0, 0, 0),
+        Part::Leaf(e) => put_leaf(b, at, e),
+        Part::Adaptor(a) => {
+            let join = a.join;
+            put_fields(b, at, join_number(join), a.first, a.second, 0, 0)
+        }
+    }
+}
+
+pub(crate) fn row_block(rows: [Row; ROWS]) -> [u8; 512]
+    ensures { λ b. ⌜ b ≡ block 1 (joined (map rowBytes rows)) ⌝ }
+{
+    let mut b = [0u8; 512];
+    let mut j: usize = 0;
+    while j < ROWS {
+        let row = rows[j];
+        let part = row.part;
+        put_part(&mut b, SIZE * j, part);
+        j += 1;
+    }
+    block::seal(b, 1)
+}

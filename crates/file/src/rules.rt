@@ -1,0 +1,107 @@
+// What is asked of a file's bytes, before its record is looked at: length, checks, version, and that what nothing uses is zero.
+use crate::block;
+use crate::bytes;
+use crate::column;
+use crate::heading;
+use crate::row;
+use circuit::Answer;
+use circuit::ROWS;
+ghost use mathlib.Core.Path.{_≡_};
+ghost use mathlib.Core.List.{[], _∷_};
+ghost use Prim.Native.Nat.{_+_, _≤_};
+ghost use lib.ListN.{length};
+ghost use Rattle.circuit.specs.Counting.{every};
+ghost use Rattle.circuit.specs.Numbers.{handed, judge, rule};
+ghost use Rattle.circuit.specs.Record.{rowLimit};
+ghost use Rattle.circuit.specs.File.{numberAt, clear, clearRow, rowPlace, checks};
+ghost use Rattle.file.specs.Placing.{clearFile, fileRules};
+
+pub(crate) const FILE: usize = 1536;
+
+// Whether the `n` bytes from `at` on are zero.
+fn is_clear(s: &[u8], at: usize, n: usize) -> bool
+    requires { ⌜ at + n ≤ length (now s) ⌝ }
+    ensures { λ r. ⌜ r ≡ clear n at (now (s .entry)) ⌝ }
+{
+    let mut clear = true;
+    let mut i = 0;
+    while i < n {
+        clear = clear & (s[at + i] == 0);
+        i += 1;
+    }
+    clear
+}
+
+// Whether a row's kind is in the list, and what the kind does not use is zero.
+fn is_clear_row(s: &[u8], at: usize) -> bool
+    requires { ⌜ at + 16 ≤ length (now s) ⌝ }
+    ensures { λ r. ⌜ r ≡ clearRow (numberAt 1 at (now (s .entry))) at (now (s .entry)) ⌝ }
+{
+    let kind = bytes::byte(s, at);
+    let children = ((6 <= kind) & (kind <= 7)) | is_clear(s, at + 1, 2);
+    let gap = is_clear(s, at + 3, 1);
+    let microvolts = (kind == 5) | is_clear(s, at + 4, 4);
+    let value = ((1 <= kind) & (kind <= 5)) | is_clear(s, at + 8, 8);
+    (kind <= 7) & children & gap & microvolts & value
+}
+
+fn are_clear_rows(s: &[u8]) -> bool
+    requires { ⌜ length (now s) ≡ 1536 ⌝ }
+    ensures { λ r. ⌜ r ≡ every (λ j. clearRow (numberAt 1 (rowPlace j) (now (s .entry))) (rowPlace j) (now (s .entry))) rowLimit ⌝ }
+{
+    let mut clear = true;
+    let mut j: usize = 0;
+    while j < ROWS {
+        clear = clear & is_clear_row(s, row::START + row::SIZE * j);
+        j += 1;
+    }
+    clear
+}
+
+// Whether every byte that nothing uses is zero, and the curve's kind is in its list.
+fn is_clear_file(s: &[u8]) -> bool
+    requires { ⌜ length (now s) ≡ 1536 ⌝ }
+    ensures { λ r. ⌜ r ≡ clearFile (now (s .entry)) ⌝ }
+{
+    let heading = (bytes::byte(s, 4) <= 2)
+        & is_clear(s, 6, 2)
+        & is_clear(s, 12, 4)
+        & is_clear(s, 24, 484);
+    heading & are_clear_rows(s) & is_clear(s, row::END, 12) & is_clear(s, column::END, 12)
+}
+
+// The lowest block whose check is wrong.
+fn wrong_check(s: &[u8]) -> Answer
+    requires { ⌜ length (now s) ≡ 1536 ⌝ }
+    ensures { λ a. ⌜ handed a ≡ judge (rule 2 checks ∷ []) (now (s .entry)) ⌝ }
+{
+    let mut k: usize = 0;
+    while k < 3 {
+        if block::is_wrong(s, k) {
+            return Answer::Check(k as u8);
+        }
+        k += 1;
+    }
+    Answer::Done
+}
+
+// Numbers 1 to 4, as far as the bytes say them.
+pub(crate) fn judged(s: &[u8]) -> Answer
+    ensures { λ a. ⌜ handed a ≡ judge fileRules (now (s .entry)) ⌝ }
+{
+    if s.len() != FILE {
+        return Answer::Length;
+    }
+    let wrong = wrong_check(s);
+    if answer::number(wrong) != 0 {
+        return wrong;
+    }
+    if bytes::number(s, 0, 2) != heading::VERSION {
+        return Answer::Version;
+    }
+    if is_clear_file(s) {
+        Answer::Done
+    } else {
+        Answer::Form
+    }
+}
