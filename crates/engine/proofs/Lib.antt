@@ -11,3 +11,8 @@ pub mod Stages
 pub mod Climb
 pub mod Fall
 pub mod Reach
+pub mod Limits
+pub mod Sending
+pub mod Sampling
+pub mod Finishing
+pub mod Refusing

@@ -87,3 +87,34 @@ module _ (p : ℕ → Bool) (i : ℕ) (l : Listed) (inside : i < length (l .rows
 pub entered-long : (b : Bool) (i : ℕ) (l : Listed) → length (enteredIf b i l .rows) ≡ length (l .rows)
 entered-long true i l = length-set (l .rows) (l .length) i
 entered-long false i l = refl
+
+-- the row at a place of the list
+pub record Place (p : ℕ → Bool) (n : ℕ) (rows : List ℕ) (k : ℕ) : Type 0 where
+  pub row : ℕ
+  pub inside : row < n
+  pub chosen : p row ≡ true
+  pub rank : rank p row ≡ k
+  pub listed : getD rows k 0 ≡ row
+
+module _ {p : ℕ → Bool} {n : ℕ} {rows : List ℕ} {size : ℕ} (lists : Lists p n rows size) where
+  pub place : (k : ℕ) → k < size → Place p n rows k
+  place k l =
+      let w = rank-at p n k (subst (λ (m : ℕ). k < m) (lists .all) l) in
+      record {
+        row = w .0;
+        inside = w .1;
+        chosen = w .2;
+        rank = w .3;
+        listed = subst (λ (m : ℕ). getD rows m 0 ≡ w .0) (w .3) (lists .each (w .0) (w .1) (w .2));
+      }
+
+  -- every chosen row has its place
+  pub placed : (j : ℕ) → j < n → p j ≡ true → rank p j < size
+  placed j l e = omega (arith, lists .all, rank-rises p j n l e)
+
+  pub size-most : size ≤ n
+  size-most = omega (arith, lists .all, rank-below p n)
+
+  -- rows of one rank are one
+  pub same-row : (i j : ℕ) → i < n → j < n → p i ≡ true → p j ≡ true → rank p i ≡ rank p j → i ≡ j
+  same-row i j a b e f q = sym (lists .each i a e) ∙ ap (λ m. getD rows m 0) q ∙ lists .each j b f

@@ -22,7 +22,7 @@ use Rattle.circuit.specs.declared.Record.{Record}
 use Rattle.laws.specs.Accepted.{Lower, Child, Accepted}
 use Rattle.engine.specs.Plan.{isAdaptor, rank, linkFor, Says, Lists}
 use Rattle.engine.specs.Sweep.{linkAt}
-use Rattle.engine.proofs.Ranks.{rank-at, rank-rises}
+use Rattle.engine.proofs.Ranks.{place}
 
 -- ---- for every record
 
@@ -81,20 +81,13 @@ module _ (r : Record) (acc : Accepted r) (words rows : List ℕ) (n : ℕ) (says
   pub stage-at : (k : ℕ) → k < n → Stage r words rows k
   unfolding Says
   stage-at k l =
-      let w = rank-at (λ i. isAdaptor (partAt r i)) (r .count) k (subst (λ (m : ℕ). k < m) (lists .all) l) in
-      let j = adaptor-of (partAt r (w .0)) (w .2) in
+      let w = place lists k l in
+      let j = adaptor-of (partAt r (w .row)) (w .chosen) in
       let short = acc .short in
-      let said : Says (Adaptor (j .0)) (ratioAt r (w .0)) (getD words (w .0) 0) =
-      subst (λ (p : Part). Says p (ratioAt r (w .0)) (getD words (w .0) 0)) (j .1) (says (w .0) (omega (arith, w .1))) in
-      record {
-        row = w .0;
-        joint = j .0;
-        inside = w .1;
-        part = j .1;
-        place = w .3;
-        listed = subst (λ (m : ℕ). getD rows m 0 ≡ w .0) (w .3) (lists .each (w .0) (w .1) (w .2));
-        link = said;
-      }
+      let inside = w .inside in
+      let said : Says (Adaptor (j .0)) (ratioAt r (w .row)) (getD words (w .row) 0) =
+      subst (λ (p : Part). Says p (ratioAt r (w .row)) (getD words (w .row) 0)) (j .1) (says (w .row) (omega arith)) in
+      record { row = w .row; joint = j .0; inside = w .inside; part = j .1; place = w .rank; listed = w .listed; link = said }
 
   -- a row at a stage's place is its row
   pub same-place : (k : ℕ) (s : Stage r words rows k) (j : ℕ) → j < r .count → isAdaptor (partAt r j) ≡ true → adaptorRank r j ≡ k → j ≡ s .row

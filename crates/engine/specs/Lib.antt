@@ -2,3 +2,4 @@ pub mod Curve
 pub mod Wave
 pub mod Plan
 pub mod Sweep
+pub mod Sample

@@ -1,5 +1,6 @@
 // What a run lays out of a record before its first sample: a word for each row, and lists of the rows that a sweep visits.
 use circuit::Adaptor;
+use circuit::CurveKind;
 use circuit::Element;
 use circuit::Join;
 use circuit::Part;
@@ -28,10 +29,30 @@ pub struct Listed {
     pub length: usize,
 }
 
+// The numbers of a circuit that a sample asks for.
+pub struct Shape {
+    // how many adaptors, leaves and reactive rows there are
+    pub adaptors: usize,
+    pub leaves: usize,
+    pub reactive: usize,
+    // the rows of the input, of the top, and of what the tap reads
+    pub input: usize,
+    pub last: usize,
+    pub tap: usize,
+    pub kind: CurveKind,
+}
+
 pub enum Choice {
     Adaptors,
     Leaves,
     Reactive,
+}
+
+// A row's number, as an index.
+pub fn wide(row: u8) -> usize
+    ensures { λ r. ⌜ r ≡ row ⌝ }
+{
+    row as usize
 }
 
 fn join_of(code: u64) -> Join

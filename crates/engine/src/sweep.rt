@@ -1,5 +1,6 @@
 // The sweeps: waves up the rows from the lowest adaptor to the top, and down again. A row's wave stands at the row's number.
 use crate::plan::unpack;
+use crate::plan::wide;
 use crate::wave::sends_down;
 use crate::wave::sends_up;
 use circuit::ROWS;
@@ -7,12 +8,6 @@ use circuit::Wave;
 ghost use mathlib.Core.Path.{_≡_};
 ghost use Prim.Native.Nat.{_<_};
 ghost use Rattle.engine.specs.Sweep.{climbed, Climbs, dropped, Drops};
-
-fn wide(row: u8) -> usize
-    ensures { λ r. ⌜ r ≡ row ⌝ }
-{
-    row as usize
-}
 
 pub fn sweep_up(words: &[u64; ROWS], adaptors: &[u8; ROWS], n: usize, up: &mut [i64; ROWS])
     requires { ⌜ Climbs (now words) (now adaptors) n (now up) ⌝ }

@@ -21,7 +21,8 @@ use Rattle.circuit.specs.declared.Record.{Record}
 use Rattle.laws.specs.Accepted.{Lower}
 use Rattle.laws.proofs.Counting.{getD-table, table-same, lowest-passes}
 use Rattle.laws.proofs.Trees.{tree-blank, tree-leaf, resistance-leaf, resistance-adaptor, ratio-adaptor}
-use Rattle.setup.specs.Ratio.{held, faulty}
+use Rattle.setup.specs.Faults.{faulty}
+use Rattle.setup.specs.Ratio.{held}
 use Rattle.setup.specs.Rows.{past, joinedRow, preparedFrom, heldPart, heldRows}
 use Rattle.setup.proofs.Tests.{below-or-not}
 

@@ -1,3 +1,4 @@
 pub mod Answers
+pub mod Faults
 pub mod Ratio
 pub mod Rows

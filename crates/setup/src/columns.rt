@@ -2,20 +2,25 @@
 
 ghost use mathlib.Core.Path.{_≡_};
 ghost use Prim.Native.Nat.{_<_, _≤_};
-ghost use mathlib.Core.Bool.{not, _&&_};
+ghost use mathlib.Core.Bool.{_&&_};
 ghost use lib.Dec.{eqb, leb};
 ghost use lib.IntN.{pos, _-ℤ_, natAbs};
 ghost use lib.Signed.{ltZ};
 ghost use Rattle.circuit.specs.Counting.{within, some};
-ghost use Rattle.circuit.specs.Numbers.{handed, unless, lowest};
+ghost use Rattle.circuit.specs.Numbers.{handed, unless};
 ghost use Rattle.circuit.specs.Record.{columnAt, columnLimit, atOrigin};
 ghost use Rattle.circuit.specs.Curve.{waveLimit, beside, starts, soundColumn, passesOrigin, columnRule};
-ghost use Rattle.setup.specs.Answers.{numbered};
+ghost use Rattle.setup.specs.Answers.{numbered, Counted};
 use crate::first;
+use crate::search::Fault;
+use crate::search::lowest_fault;
 use circuit::Answer;
 use circuit::Column;
 use circuit::CurveKind;
 use circuit::Record;
+
+// microvolts
+const WAVE_LIMIT: i32 = 67108864;
 
 fn is_zero(x: i32) -> bool
     ensures { λ b. ⌜ b ≡ eqb (natAbs x) 0 ⌝ }
@@ -29,11 +34,10 @@ pub(crate) fn at_origin(c: Column) -> bool
     is_zero(c.x) & is_zero(c.y)
 }
 
-// Up to 2^26 microvolts.
 fn in_limit(c: Column) -> bool
     ensures { λ b. ⌜ b ≡ within waveLimit (c .x) ⌝ }
 {
-    (-67108864 <= c.x) & (c.x <= 67108864)
+    (-WAVE_LIMIT <= c.x) & (c.x <= WAVE_LIMIT)
 }
 
 // How far b lies above a: in 64 bits, where the difference of any two coordinates fits.
@@ -69,7 +73,7 @@ fn may_start(kind: CurveKind, c: Column) -> bool
     }
 }
 
-fn sound_column(r: Record, i: usize) -> bool
+pub(crate) fn sound_column(r: Record, i: usize) -> bool
     requires { ⌜ i < columnLimit ⌝ }
     ensures { λ b. ⌜ b ≡ soundColumn r i ⌝ }
 {
@@ -81,20 +85,6 @@ fn sound_column(r: Record, i: usize) -> bool
         let before = r.columns[i - 1];
         in_limit(here) & stands_beside(before, here)
     }
-}
-
-// The lowest column at fault.
-fn sound_columns(r: Record) -> Answer
-    requires { ⌜ r .width ≤ columnLimit ⌝ }
-    ensures { λ a. ⌜ handed a ≡ numbered 10 (lowest (λ i. not (soundColumn r i)) (r .width)) ⌝ }
-{
-    let width = r.width;
-    for i in 0..width {
-        if !sound_column(r, i as usize) {
-            return Answer::Curve(i);
-        }
-    }
-    Answer::Done
 }
 
 fn has_origin(r: Record) -> bool
@@ -135,8 +125,8 @@ fn origin_rule(r: Record) -> Answer
 }
 
 pub(crate) fn column_rule(r: Record) -> Answer
-    requires { ⌜ r .width ≤ columnLimit ⌝ }
+    requires { ⌜ Counted r ⌝ }
     ensures { λ a. ⌜ handed a ≡ numbered 10 (columnRule r) ⌝ }
 {
-    first(sound_columns(r), origin_rule(r))
+    first(lowest_fault(Fault::Column, r), origin_rule(r))
 }

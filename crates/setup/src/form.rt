@@ -15,6 +15,11 @@ use circuit::Part;
 use circuit::ROWS;
 use circuit::Record;
 
+// whole hertz
+const LOWEST_RATE: u32 = 8000;
+
+const HIGHEST_RATE: u32 = 768000;
+
 fn is_blank(p: Part) -> bool
     ensures { λ b. ⌜ b ≡ isBlank p ⌝ }
 {
@@ -66,8 +71,8 @@ pub(crate) fn form(r: Record) -> Answer
     ensures { λ a. ⌜ handed a ≡ numbered 4 (formRule r) ⌝ }
 {
     let kind = r.kind;
-    let rows = (1 <= r.count) & (r.count <= 31);
-    let columns = (2 <= r.width) & (r.width <= 62);
+    let rows = (1 <= r.count) & ((r.count as usize) <= ROWS);
+    let columns = (2 <= r.width) & ((r.width as usize) <= COLUMNS);
     if rows & columns & is_set(kind) & blank_rows(r) & blank_columns(r) {
         Answer::Done
     } else {
@@ -78,7 +83,7 @@ pub(crate) fn form(r: Record) -> Answer
 pub(crate) fn rate(r: Record) -> Answer
     ensures { λ a. ⌜ handed a ≡ numbered 5 (rateRule r) ⌝ }
 {
-    if (8000 <= r.rate) & (r.rate <= 768000) {
+    if (LOWEST_RATE <= r.rate) & (r.rate <= HIGHEST_RATE) {
         Answer::Done
     } else {
         Answer::Rate

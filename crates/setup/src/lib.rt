@@ -12,6 +12,7 @@ ghost use Rattle.setup.specs.Rows.{Ready};
 mod columns;
 mod form;
 mod port;
+mod search;
 mod tree;
 mod value;
 
@@ -21,6 +22,9 @@ use circuit::ROWS;
 use circuit::Record;
 use circuit::SetUp;
 use circuit::State;
+use port::PortFault;
+use search::Fault;
+use search::lowest_fault;
 
 // One answer, and where it is done another.
 fn first(a: Answer, b: Answer) -> Answer
@@ -34,9 +38,12 @@ fn tree_answer(r: Record) -> Answer
     requires { ⌜ Counted r ⌝ }
     ensures { λ a. ⌜ handed a ≡ judge treeRules r ⌝ }
 {
-    let leaves = first(tree::input_and_tap(r), value::values(r));
-    let rows = first(tree::children_lower(r), first(tree::used_once(r), leaves));
-    first(form::rate(r), rows)
+    let rate = form::rate(r);
+    let lower = lowest_fault(Fault::Lower, r);
+    let once = lowest_fault(Fault::Once, r);
+    let tapped = tree::input_and_tap(r);
+    let valued = lowest_fault(Fault::Value, r);
+    first(rate, first(lower, first(once, first(tapped, valued))))
 }
 
 // 8 to 11.
@@ -44,11 +51,11 @@ fn port_answer(r: Record, rows: [Prepared; ROWS]) -> Answer
     requires { ⌜ Ready r rows ⌝ }
     ensures { λ a. ⌜ handed a ≡ judge portRules r ⌝ }
 {
-    let curve = first(columns::column_rule(r), port::curve_resistance(r, rows));
-    first(
-        port::port_resistances(r, rows),
-        first(port::ratios(r, rows), curve),
-    )
+    let ranged = port::lowest_port(PortFault::Range, r, rows);
+    let rated = port::lowest_port(PortFault::Ratio, r, rows);
+    let drawn = columns::column_rule(r);
+    let fitted = port::curve_resistance(r, rows);
+    first(ranged, first(rated, first(drawn, fitted)))
 }
 
 fn refused(a: Answer) -> SetUp

@@ -2,12 +2,13 @@
 
 ghost use mathlib.Core.Path.{_≡_};
 ghost use Prim.Native.Nat.{ℕ};
-ghost use Rattle.circuit.specs.Numbers.{handed};
+ghost use Rattle.circuit.specs.Numbers.{handed, report};
 ghost use Rattle.circuit.specs.Record.{rowLimit, partAt};
-ghost use Rattle.circuit.specs.SetUp.{nothing, inRange, leafResistance, joinedResistance, quotient, scaledDown, fits, portResistances, ratios as ratioRule, curveResistance};
+ghost use Rattle.circuit.specs.SetUp.{nothing, inRange, leafResistance, joinedResistance, quotient, scaledDown, fits, curveResistance};
 ghost use Rattle.laws.specs.Accepted.{Lower};
 ghost use Rattle.setup.specs.Answers.{numbered};
-ghost use Rattle.setup.specs.Ratio.{held, faulty};
+ghost use Rattle.setup.specs.Ratio.{held};
+ghost use Rattle.setup.specs.Faults.{faulty, faultOf, portNumber, portRule};
 ghost use Rattle.setup.specs.Rows.{joinedRow, preparedFrom, heldRows, Ready};
 use circuit::Answer;
 use circuit::Element;
@@ -18,7 +19,7 @@ use circuit::ROWS;
 use circuit::Record;
 
 // 1 / 2^24 is one part of a ratio
-const PARTS: f64 = 16777216.0;
+const PARTS: u32 = 16777216;
 
 fn leaf_resistance(rate: u32, e: Element) -> f64
     ensures { λ r. ⌜ r ≡ leafResistance rate e ⌝ }
@@ -56,7 +57,7 @@ fn ratio_of(q: f64) -> u32
 {
     if q > 0.0 {
         if q < 1.0 {
-            return std::num::truncating_f64_to_u64(q * PARTS) as u32;
+            return std::num::truncating_f64_to_u64(q * (PARTS as f64)) as u32;
         }
     }
     0
@@ -131,42 +132,52 @@ pub(crate) fn prepared_rows(r: Record) -> [Prepared; ROWS]
     rows
 }
 
-pub(crate) fn port_resistances(r: Record, rows: [Prepared; ROWS]) -> Answer
-    requires { ⌜ Ready r rows ⌝ }
-    ensures { λ a. ⌜ handed a ≡ numbered 8 (portResistances r) ⌝ }
-{
-    let count = r.count;
-    for j in 0..count {
-        let here = rows[j as usize];
-        if !in_range(here.resistance) {
-            return Answer::Resistance(j);
-        }
-    }
-    Answer::Done
+// A resistance out of range; a ratio that is not from 1 to 2^24 - 1 parts, which only an adaptor can have.
+pub(crate) enum PortFault {
+    Range,
+    Ratio,
 }
 
-// From 1 to 2^24 - 1 parts; only an adaptor has a ratio to be at fault.
 fn ratio_fault(p: Part, ratio: u32) -> bool
     ensures { λ b. ⌜ b ≡ faulty p ratio ⌝ }
 {
     match p {
         Part::Blank => false,
         Part::Leaf(_) => false,
-        Part::Adaptor(_) => !((1 <= ratio) & (ratio <= 16777215)),
+        Part::Adaptor(_) => !((1 <= ratio) & (ratio <= PARTS - 1)),
     }
 }
 
-pub(crate) fn ratios(r: Record, rows: [Prepared; ROWS]) -> Answer
+fn row_fault(f: PortFault, p: Part, row: Prepared) -> bool
+    ensures { λ b. ⌜ b ≡ faultOf f p row ⌝ }
+{
+    match f {
+        PortFault::Range => !in_range(row.resistance),
+        PortFault::Ratio => ratio_fault(p, row.ratio),
+    }
+}
+
+fn answer_at(f: PortFault, j: u8) -> Answer
+    ensures { λ a. ⌜ handed a ≡ report (portNumber f) j ⌝ }
+{
+    match f {
+        PortFault::Range => Answer::Resistance(j),
+        PortFault::Ratio => Answer::Ratio(j),
+    }
+}
+
+// The lowest row at fault.
+pub(crate) fn lowest_port(f: PortFault, r: Record, rows: [Prepared; ROWS]) -> Answer
     requires { ⌜ Ready r rows ⌝ }
-    ensures { λ a. ⌜ handed a ≡ numbered 9 (ratioRule r) ⌝ }
+    ensures { λ a. ⌜ handed a ≡ numbered (portNumber f) (portRule f r) ⌝ }
 {
     let count = r.count;
     for j in 0..count {
         let row = r.rows[j as usize];
         let part = row.part;
         let here = rows[j as usize];
-        if ratio_fault(part, here.ratio) {
-            return Answer::Ratio(j);
+        if row_fault(f, part, here) {
+            return answer_at(f, j);
         }
     }
     Answer::Done

@@ -2,10 +2,10 @@
 // tap is a leaf or the top.
 
 ghost use mathlib.Core.Path.{_≡_};
-ghost use Prim.Native.Nat.{_<_, _≤_};
+ghost use Prim.Native.Nat.{_≤_};
 ghost use Rattle.circuit.specs.Counting.{one};
 ghost use Rattle.circuit.specs.Numbers.{handed};
-ghost use Rattle.circuit.specs.Record.{rowLimit, partAt, isLeaf, isInput, notLower, names as namesOf, uses as usesOf, inputs as inputsOf, childrenLower, usedOnce, inputAndTap};
+ghost use Rattle.circuit.specs.Record.{rowLimit, partAt, isLeaf, isInput, notLower, names as namesOf, uses as usesOf, inputs as inputsOf, inputAndTap};
 ghost use Rattle.setup.specs.Answers.{numbered};
 use circuit::Answer;
 use circuit::Element;
@@ -14,7 +14,8 @@ use circuit::ROWS;
 use circuit::Record;
 use circuit::TOP;
 
-fn not_lower(j: u8, p: Part) -> bool
+// An adaptor whose children are not both lower.
+pub(crate) fn not_lower(j: u8, p: Part) -> bool
     ensures { λ b. ⌜ b ≡ notLower j p ⌝ }
 {
     match p {
@@ -22,21 +23,6 @@ fn not_lower(j: u8, p: Part) -> bool
         Part::Leaf(_) => false,
         Part::Adaptor(a) => !((a.first < j) & (a.second < j)),
     }
-}
-
-pub(crate) fn children_lower(r: Record) -> Answer
-    requires { ⌜ r .count ≤ rowLimit ⌝ }
-    ensures { λ a. ⌜ handed a ≡ numbered 6 (childrenLower r) ⌝ }
-{
-    let count = r.count;
-    for j in 0..count {
-        let row = r.rows[j as usize];
-        let part = row.part;
-        if not_lower(j, part) {
-            return Answer::Tree(j);
-        }
-    }
-    Answer::Done
 }
 
 fn one_if(b: bool) -> usize
@@ -56,7 +42,7 @@ fn names(p: Part, k: u8) -> usize
     }
 }
 
-fn uses(r: Record, k: u8) -> usize
+pub(crate) fn uses(r: Record, k: u8) -> usize
     requires { ⌜ r .count ≤ rowLimit ⌝ }
     ensures { λ n. ⌜ n ≡ usesOf r k ⌝ }
 {
@@ -68,19 +54,6 @@ fn uses(r: Record, k: u8) -> usize
         n = n + names(part, k);
     }
     n
-}
-
-pub(crate) fn used_once(r: Record) -> Answer
-    requires { ⌜ (0 < r .count) × (r .count ≤ rowLimit) ⌝ }
-    ensures { λ a. ⌜ handed a ≡ numbered 6 (usedOnce r) ⌝ }
-{
-    let last = r.count - 1;
-    for k in 0..last {
-        if uses(r, k) != 1 {
-            return Answer::Tree(k);
-        }
-    }
-    Answer::Done
 }
 
 fn is_input(p: Part) -> bool

@@ -93,18 +93,5 @@ returns-4 c =
 pub set-up-spec : {M : Type 1} → statement M
 set-up-spec =
     tie.close
-    (tie.spec
-    (λ c κs. search needs)
-    (λ c κs. search needs)
-    (λ c κs. search needs)
-    returns
-    tree-answer-requires
-    (λ c κs. search needs)
-    (λ c κs. search needs)
-    returns-2
-    prepared-rows-requires
-    port-answer-requires
-    (λ c κs. search needs)
-    (λ c κs. search needs)
-    returns-3
-    returns-4)
+    (tie.spec (λ c κs. search needs) (λ c κs. search needs) (λ c κs. search needs) returns tree-answer-requires (λ c κs. search needs)
+    (λ c κs. search needs) returns-2 prepared-rows-requires port-answer-requires (λ c κs. search needs) (λ c κs. search needs) returns-3 returns-4)

@@ -38,4 +38,7 @@ returns c =
     at .loop .inv .1 ∙ ap (some (here r)) e
 
 pub has-origin-spec : {M : Type 1} → statement M
-has-origin-spec = tie.close (tie.spec Inv-loop μ-loop (λ c. search needs) loop-holds (λ c. omega arith) (λ c. omega arith) (λ c κs. search needs) (λ c. omega arith) (λ c. omega arith) loop-again returns)
+has-origin-spec =
+    tie.close
+    (tie.spec Inv-loop μ-loop (λ c. search needs) loop-holds (λ c. omega arith) (λ c. omega arith) (λ c κs. search needs) (λ c. omega arith)
+    (λ c. omega arith) loop-again returns)

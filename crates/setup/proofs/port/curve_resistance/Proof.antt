@@ -31,4 +31,5 @@ returns-2 c = ap (λ (b : Bool). numbered 11 (unless b 0)) (sym (c .if1 .left) �
 
 pub curve-resistance-spec : {M : Type 1} → statement M
 curve-resistance-spec =
-    tie.close (tie.spec (λ c. search needs) (λ c. search needs) (λ c. search needs) (λ c. search needs) (λ c κs. search needs) returns returns-2)
+    tie.close
+    (tie.spec (λ c. search needs) (λ c. search needs) (λ c. search needs) (λ c. search needs) (λ c κs. search needs) returns returns-2)

@@ -38,19 +38,6 @@ returns-3 c =
 pub prepared-row-spec : {M : Type 1} → statement M
 prepared-row-spec =
     tie.close
-    (tie.spec
-    (λ c. search needs)
-    (λ c κs. search needs)
-    (λ c. search needs)
-    (λ c κs. search needs)
-    (λ c. search needs)
-    (λ c. search needs)
-    (λ c. search needs)
-    array-copy-out-first
-    (λ c. search needs)
-    (λ c. search needs)
-    array-copy-out-second
-    (λ c κs. search needs)
-    returns
-    returns-2
+    (tie.spec (λ c. search needs) (λ c κs. search needs) (λ c. search needs) (λ c κs. search needs) (λ c. search needs) (λ c. search needs)
+    (λ c. search needs) array-copy-out-first (λ c. search needs) (λ c. search needs) array-copy-out-second (λ c κs. search needs) returns returns-2
     returns-3)

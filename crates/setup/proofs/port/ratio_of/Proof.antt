@@ -5,8 +5,9 @@ use mathlib.Core.Path.{_≡_, refl, sym, ap, subst, _∙_}
 use mathlib.Core.Logic.{_⊎_, inl, inr}
 use mathlib.Core.Bool.{true, false}
 use borrow.Author.Tests.{lt-ltb, le-ltb}
+use borrow.Author.Needs.{needs}
 use lib.Dec.{T}
-use lib.Ieee.{Float, nan, inf, fin, ofBits}
+use lib.Ieee.{Float, nan, inf, fin, ofBits, ofInt}
 use Rattle.circuit.specs.SetUp.{parts, scaledDown}
 use Rattle.setup.specs.Ratio.{scaledBy, held}
 use Rattle.setup.proofs.Width.{Scaled, inside, none-low, all-high}
@@ -29,17 +30,17 @@ held-past n (inl e) = rw e refl
 held-past n (inr h) = rw (le-ltb n parts h)
 
 in-parts : (c : tie.Then2) → Scaled 24 (c .before .before .args .q)
-unfolding ofBits
+unfolding ofBits ofInt
 in-parts c =
     let s = c .before .before in
     inside 24 (omega arith) (s .args .q) (subst T (sym (s .good .0 .1)) tt) (c .before .if1 .taken) (c .if2 .taken)
 
 truncating-f64-to-u64-requires : tie.Need-truncating-f64-to-u64-requires
-unfolding ofBits
+unfolding ofBits ofInt
 truncating-f64-to-u64-requires c κs = (in-parts c .cast .above, in-parts c .cast .below)
 
 cut : (c : tie.After-truncating-f64-to-u64) → c .truncating-f64-to-u64 .result ≡ scaledBy 24 (c .before .before .before .args .q)
-unfolding ofBits
+unfolding ofBits ofInt
 cut c = c .truncating-f64-to-u64 .ensures ∙ in-parts (c .before) .cast .cut
 
 cast-result : tie.Need-cast-result
@@ -51,12 +52,12 @@ returns c =
     cut c ∙ held-below (scaledBy 24 q) (in-parts (c .before) .fewer) ∙ ap held (at-24 q)
 
 returns-2 : tie.Need-returns-2
-unfolding ofBits
+unfolding ofBits ofInt
 returns-2 c = let q = c .before .before .args .q in held-past (scaledBy 24 q) (all-high 24 q (c .if2 .left)) ∙ ap held (at-24 q)
 
 returns-3 : tie.Need-returns-3
-unfolding ofBits
+unfolding ofBits ofInt
 returns-3 c = let q = c .before .args .q in held-past (scaledBy 24 q) (inl (none-low 24 q (c .if1 .left))) ∙ ap held (at-24 q)
 
 pub ratio-of-spec : {M : Type 1} → statement M
-ratio-of-spec = tie.close (tie.spec truncating-f64-to-u64-requires cast-result returns returns-2 returns-3)
+ratio-of-spec = tie.close (tie.spec (λ c. search needs) truncating-f64-to-u64-requires cast-result returns returns-2 returns-3)

@@ -19,4 +19,5 @@ returns-3 c = rw (c .before .before .one-if .ensures, c .one-if2 .ensures, c .be
 pub names-spec : {M : Type 1} → statement M
 names-spec =
     tie.close
-    (tie.spec (λ c. search needs) (λ c. search needs) (λ c. search needs) (λ c κs. search needs) (λ c κs. search needs) add-result (λ c. search needs) (λ c. search needs) returns-3)
+    (tie.spec (λ c. search needs) (λ c. search needs) (λ c. search needs) (λ c κs. search needs) (λ c κs. search needs) add-result
+    (λ c. search needs) (λ c. search needs) returns-3)

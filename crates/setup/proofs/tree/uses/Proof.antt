@@ -44,4 +44,6 @@ returns c =
 
 pub uses-spec : {M : Type 1} → statement M
 uses-spec =
-    tie.close (tie.spec Inv-loop μ-loop (λ c. omega arith) loop-holds (λ c. omega arith) (λ c. omega arith) (λ c κs. search needs) add-n (λ c. omega arith) (λ c. omega arith) loop-again returns)
+    tie.close
+    (tie.spec Inv-loop μ-loop (λ c. omega arith) loop-holds (λ c. omega arith) (λ c. omega arith) (λ c κs. search needs) add-n (λ c. omega arith)
+    (λ c. omega arith) loop-again returns)

@@ -1,0 +1,71 @@
+// Text in ASCII, put into a buffer at a place. Each function answers the place after what it put.
+ghost use Prim.Native.Nat.{_+_, _≤_, _<_};
+ghost use mathlib.Core.List.{[], _∷_};
+ghost use lib.ListN.{length};
+ghost use Rattle.circuit.specs.Text.{digits, decimal};
+ghost use Rattle.listing.specs.Writing.{Puts};
+ghost use Rattle.listing.specs.Lines.{numberText, numbersLine};
+
+// Nothing here has more decimal digits: the largest number is a ratio, below 2^24.
+const DIGITS: usize = 8;
+
+fn put_byte(out: &mut [u8], at: usize, b: u8) -> usize
+    requires { ⌜ at < length (now out) ⌝ }
+    ensures { λ r. ⌜ Puts (b ∷ []) at (now (out .entry)) r (now (out .exit)) ⌝ }
+{
+    out[at] = b;
+    at + 1
+}
+
+pub fn put_text(out: &mut [u8], at: usize, t: &[u8]) -> usize
+    requires { ⌜ at + length (now t) ≤ length (now out) ⌝ }
+    ensures { λ r. ⌜ Puts (now (t .entry)) at (now (out .entry)) r (now (out .exit)) ⌝ }
+{
+    let mut i = 0;
+    while i < t.len() {
+        out[at + i] = t[i];
+        i += 1;
+    }
+    at + t.len()
+}
+
+// The last k decimal digits of n, with no zero in front.
+fn put_digits(out: &mut [u8], at: usize, k: usize, n: u64) -> usize
+    requires { ⌜ at + k ≤ length (now out) ⌝ }
+    ensures { λ r. ⌜ Puts (digits k n) at (now (out .entry)) r (now (out .exit)) ⌝ }
+{
+    if k == 0 {
+        return at;
+    }
+    if n < 10 {
+        return put_byte(out, at, 48 + n as u8);
+    }
+    let last = put_digits(out, at, k - 1, n / 10);
+    put_byte(out, last, 48 + (n % 10) as u8)
+}
+
+fn put_decimal(out: &mut [u8], at: usize, n: u64) -> usize
+    requires { ⌜ at + 8 ≤ length (now out) ⌝ }
+    ensures { λ r. ⌜ Puts (decimal n) at (now (out .entry)) r (now (out .exit)) ⌝ }
+{
+    put_digits(out, at, DIGITS, n)
+}
+
+// A number, and the text after it.
+pub fn put_number(out: &mut [u8], at: usize, n: u64, after: &[u8]) -> usize
+    requires { ⌜ at + 8 + length (now after) ≤ length (now out) ⌝ }
+    ensures { λ r. ⌜ Puts (numberText n (now (after .entry))) at (now (out .entry)) r (now (out .exit)) ⌝ }
+{
+    let next = put_decimal(out, at, n);
+    put_text(out, next, after)
+}
+
+// A line of two numbers, with a text before each.
+pub fn put_numbers(out: &mut [u8], first: &[u8], a: u64, second: &[u8], b: u64) -> usize
+    requires { ⌜ length (now first) + length (now second) + 17 ≤ length (now out) ⌝ }
+    ensures { λ r. ⌜ Puts (numbersLine (now (first .entry)) a (now (second .entry)) b) 0 (now (out .entry)) r (now (out .exit)) ⌝ }
+{
+    let number = put_text(out, 0, first);
+    let next = put_number(out, number, a, second);
+    put_number(out, next, b, b"\n")
+}
