@@ -9,15 +9,6 @@ use Rattle.file.proofs.Judged.{judged-length, read-stop, read-on, recor
 use Rattle.file.proofs.read.Statement.{statement}
 use Rattle.file.proofs.read.Tie as tie
 
-judged-requires : tie.Need-judged-requires
-judged-requires c κs = search needs
-
-number-requires : tie.Need-number-requires
-number-requires c κs = search needs
-
-no-record-requires : tie.Need-no-record-requires
-no-record-requires c κs = search needs
-
 returns : tie.Need-returns
 returns c =
     let n = c .before .before in
@@ -33,20 +24,11 @@ accepted c = sym (ap (λ n. n .number) (c .before .before .judged .ensures)) ∙
 record-of-requires : tie.Need-record-of-requires
 record-of-requires c κs = judged-length (c .before .before .before .before .args .s .now) (accepted c)
 
-set-up-requires : tie.Need-set-up-requires
-set-up-requires c κs = search needs
-
-number-requires-2 : tie.Need-number-requires-2
-number-requires-2 c κs = search needs
-
 -- so what set-up hands back is what reading does
 reported : (c : tie.After-number2) → handed (c .before .set-up .result .answer) ≡ readReport (c .before .before .before .before .before .before .before .args .s .now)
 reported c =
     let e = c .before .before .before in
     c .before .set-up .ensures .0 ∙ ap setUpReport (c .before .before .record-of .ensures) ∙ sym (read-on (e .before .before .before .before .args .s .now) (accepted e))
-
-no-record-requires-2 : tie.Need-no-record-requires-2
-no-record-requires-2 c κs = search needs
 
 returns-2 : tie.Need-returns-2
 returns-2 c =
@@ -64,13 +46,13 @@ pub read-spec : {M : Type 1} → statement M
 read-spec =
     tie.close
     (tie.spec
-    judged-requires
-    number-requires
-    no-record-requires
+    (λ c κs. search needs)
+    (λ c κs. search needs)
+    (λ c κs. search needs)
     returns
     record-of-requires
-    set-up-requires
-    number-requires-2
-    no-record-requires-2
+    (λ c κs. search needs)
+    (λ c κs. search needs)
+    (λ c κs. search needs)
     returns-2
     returns-3)

@@ -16,12 +16,6 @@ returns c =
     let e = write-stop w (c .if1 .taken) in
     (sym e, sym (buffer-left w (λ z. let q = sym (ap (λ n. n .number) e) ∙ z in omega arith)))
 
-set-up-requires : tie.Need-set-up-requires
-set-up-requires c κs = search needs
-
-number-requires : tie.Need-number-requires
-number-requires c κs = search needs
-
 -- the record that is written, and the buffer before
 written : (c : tie.After-number) → Written
 written c = record { circuit = c .before .before .before .before .args .r; buffer = c .before .before .before .before .args .out .now }
@@ -30,12 +24,6 @@ written c = record { circuit = c .before .before .before .before .args .r; buffe
 reported : (c : tie.After-number) → handed (c .before .set-up .result .answer) ≡ writeReport (written c)
 unfolding written
 reported c = c .before .set-up .ensures .0 ∙ sym (write-on (written c) (c .before .before .if1 .left))
-
-write-blocks-requires : tie.Need-write-blocks-requires
-write-blocks-requires c κs = search needs
-
-same-length : tie.Need-same-length
-same-length c = search needs
 
 returns-2 : tie.Need-returns-2
 unfolding written
@@ -57,9 +45,9 @@ write-spec =
     tie.close
     (tie.spec
     returns
-    set-up-requires
-    number-requires
-    write-blocks-requires
-    same-length
+    (λ c κs. search needs)
+    (λ c κs. search needs)
+    (λ c κs. search needs)
+    (λ c. search needs)
     returns-2
     returns-3)

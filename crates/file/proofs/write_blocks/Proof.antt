@@ -6,36 +6,6 @@ use Rattle.file.proofs.Fields.{blocks-placed}
 use Rattle.file.proofs.write_blocks.Statement.{statement}
 use Rattle.file.proofs.write_blocks.Tie as tie
 
-heading-block-requires : tie.Need-heading-block-requires
-heading-block-requires c κs = search needs
-
-row-block-requires : tie.Need-row-block-requires
-row-block-requires c κs = search needs
-
-column-block-requires : tie.Need-column-block-requires
-column-block-requires c κs = search needs
-
-slice-aggregate-place : tie.Need-slice-aggregate-place
-slice-aggregate-place c = search needs
-
-place-requires : tie.Need-place-requires
-place-requires c κs = search needs
-
-slice-aggregate-place-2 : tie.Need-slice-aggregate-place-2
-slice-aggregate-place-2 c = search needs
-
-place-requires-2 : tie.Need-place-requires-2
-place-requires-2 c κs = search needs
-
-slice-aggregate-place-3 : tie.Need-slice-aggregate-place-3
-slice-aggregate-place-3 c = search needs
-
-place-requires-3 : tie.Need-place-requires-3
-place-requires-3 c κs = search needs
-
-same-length : tie.Need-same-length
-same-length c = search needs
-
 returns : tie.Need-returns
 unfolding fileOf
 returns c =
@@ -55,14 +25,14 @@ pub write-blocks-spec : {M : Type 1} → statement M
 write-blocks-spec =
     tie.close
     (tie.spec
-    heading-block-requires
-    row-block-requires
-    column-block-requires
-    slice-aggregate-place
-    place-requires
-    slice-aggregate-place-2
-    place-requires-2
-    slice-aggregate-place-3
-    place-requires-3
-    same-length
+    (λ c κs. search needs)
+    (λ c κs. search needs)
+    (λ c κs. search needs)
+    (λ c. search needs)
+    (λ c κs. search needs)
+    (λ c. search needs)
+    (λ c κs. search needs)
+    (λ c. search needs)
+    (λ c κs. search needs)
+    (λ c. search needs)
     returns)

@@ -9,12 +9,9 @@ use Rattle.file.proofs.bytes.bits.Tie as tie
 float-to-bits-result : tie.Need-float-to-bits-result
 float-to-bits-result c = rw (same-number (c .before .args .x) (c .if1 .taken)) tt
 
-returns : tie.Need-returns
-returns c = search needs
-
 returns-2 : tie.Need-returns-2
 unfolding toBits
 returns-2 c = sym (ap (toBits binary64) (other-number (c .before .args .x) (c .if1 .left)))
 
 pub bits-spec : {M : Type 1} → statement M
-bits-spec = tie.close (tie.spec float-to-bits-result returns returns-2)
+bits-spec = tie.close (tie.spec float-to-bits-result (λ c. search needs) returns-2)

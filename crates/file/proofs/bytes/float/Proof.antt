@@ -5,14 +5,8 @@ use lib.Ieee.{binary64, ofBits}
 use Rattle.file.proofs.bytes.float.Statement.{statement}
 use Rattle.file.proofs.bytes.float.Tie as tie
 
-number-requires : tie.Need-number-requires
-number-requires c κs = search needs
-
-float-of-requires : tie.Need-float-of-requires
-float-of-requires c κs = search needs
-
 returns : tie.Need-returns
 returns c = c .float-of .ensures ∙ ap (ofBits binary64) (c .before .number .ensures .0)
 
 pub float-spec : {M : Type 1} → statement M
-float-spec = tie.close (tie.spec number-requires float-of-requires returns)
+float-spec = tie.close (tie.spec (λ c κs. search needs) (λ c κs. search needs) returns)

@@ -13,8 +13,5 @@ returns : tie.Need-returns
 unfolding div ofBits
 returns c = sym (is-nan _ (nan-above (c .before .args .n) (c .if1 .taken)))
 
-returns-2 : tie.Need-returns-2
-returns-2 c = search needs
-
 pub float-of-spec : {M : Type 1} → statement M
-float-of-spec = tie.close (tie.spec float-from-bits-result returns returns-2)
+float-of-spec = tie.close (tie.spec float-from-bits-result returns (λ c. search needs))

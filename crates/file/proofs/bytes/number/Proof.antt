@@ -21,15 +21,6 @@ abbrev μ-loop : tie.MeasureT-loop
 loop-holds : tie.Need-loop-holds Inv-loop μ-loop
 loop-holds c = (le-refl _, slice-none (c .args .k) (drop (c .args .at) (c .args .s .now)), one-le-pow (c .args .k - c .args .k) 256 (lit< tt))
 
-sub-i : tie.Need-sub-i Inv-loop μ-loop
-sub-i c = omega arith
-
-add-b : tie.Need-add-b Inv-loop μ-loop
-add-b c = omega arith
-
-shared-slice-read-b : tie.Need-shared-slice-read-b Inv-loop μ-loop
-shared-slice-read-b c = omega arith
-
 byte : (c : tie.After-shared-slice-known Inv-loop μ-loop) → Bytes (c .before .before .before .args .s .now)
 byte c i = c .shared-slice-known .given i .fits
 
@@ -52,9 +43,6 @@ mul-n c = omega (arith, small c)
 add-n : tie.Need-add-n Inv-loop μ-loop
 add-n c = omega (arith, small c, byte c (c .before .before .before .args .at + (c .before .before .loop .i - 1)))
 
-loop-less : tie.Need-loop-less Inv-loop μ-loop
-loop-less c = omega arith
-
 loop-again : tie.Need-loop-again Inv-loop μ-loop
 loop-again c =
     let a = c .before .before .before .args in
@@ -71,4 +59,4 @@ returns c =
     (rw z at (l .inv .1), rw k at (l .inv .2))
 
 pub number-spec : {M : Type 1} → statement M
-number-spec = tie.close (tie.spec Inv-loop μ-loop loop-holds sub-i add-b shared-slice-read-b cast-n mul-n add-n loop-less loop-again returns)
+number-spec = tie.close (tie.spec Inv-loop μ-loop loop-holds (λ c. omega arith) (λ c. omega arith) (λ c. omega arith) cast-n mul-n add-n (λ c. omega arith) loop-again returns)

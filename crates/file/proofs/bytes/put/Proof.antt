@@ -21,21 +21,6 @@ abbrev μ-loop : tie.MeasureT-loop
 loop-holds : tie.Need-loop-holds Inv-loop μ-loop
 loop-holds c = (zero-le, sym (div-one _), paste-zero (c .args .s .now) (c .args .at) (bytes (c .args .k) (c .args .n)), refl)
 
-cast-s : tie.Need-cast-s Inv-loop μ-loop
-cast-s c = omega arith
-
-add-s : tie.Need-add-s Inv-loop μ-loop
-add-s c = omega arith
-
-slice-write-s : tie.Need-slice-write-s Inv-loop μ-loop
-slice-write-s c = omega arith
-
-add-i : tie.Need-add-i Inv-loop μ-loop
-add-i c = omega arith
-
-loop-less : tie.Need-loop-less Inv-loop μ-loop
-loop-less c = omega arith
-
 loop-again : tie.Need-loop-again Inv-loop μ-loop
 loop-again c =
     let a = c .before .before .args in
@@ -49,9 +34,6 @@ loop-again c =
       rw length-set (l .inv .3),
     )
 
-same-length : tie.Need-same-length Inv-loop μ-loop
-same-length c = omega arith
-
 returns : tie.Need-returns Inv-loop μ-loop
 returns c =
     let a = c .before .before .args in
@@ -59,4 +41,4 @@ returns c =
     (rw z at (c .before .loop .inv .2)) ∙ paste-whole (a .s .now) (bytes (a .k) (a .n)) (a .at) (a .k) (length-bytes (a .k) (a .n))
 
 pub put-spec : {M : Type 1} → statement M
-put-spec = tie.close (tie.spec Inv-loop μ-loop loop-holds cast-s add-s slice-write-s add-i loop-less loop-again same-length returns)
+put-spec = tie.close (tie.spec Inv-loop μ-loop loop-holds (λ c. omega arith) (λ c. omega arith) (λ c. omega arith) (λ c. omega arith) (λ c. omega arith) loop-again (λ c. omega arith) returns)

@@ -7,14 +7,8 @@ use mir.ValLaws.{toZ-ofZ}
 use Rattle.file.proofs.bytes.signed.Statement.{statement}
 use Rattle.file.proofs.bytes.signed.Tie as tie
 
-word-requires : tie.Need-word-requires
-word-requires c κs = search needs
-
-signed-of-requires : tie.Need-signed-of-requires
-signed-of-requires c κs = search needs
-
 returns : tie.Need-returns
 returns c = toZ-ofZ w32 (c .signed-of .result) (record { sfits = c .signed-of .ok }) ∙ c .signed-of .ensures ∙ ap (toZ w32) (c .before .word .ensures)
 
 pub signed-spec : {M : Type 1} → statement M
-signed-spec = tie.close (tie.spec word-requires signed-of-requires returns)
+signed-spec = tie.close (tie.spec (λ c κs. search needs) (λ c κs. search needs) returns)

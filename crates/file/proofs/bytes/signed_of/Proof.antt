@@ -8,15 +8,6 @@ use mir.Val.{toZ}
 use Rattle.file.proofs.bytes.signed_of.Statement.{statement}
 use Rattle.file.proofs.bytes.signed_of.Tie as tie
 
-cast-result : tie.Need-cast-result
-cast-result c = search needs
-
-cast-result-2 : tie.Need-cast-result-2
-cast-result-2 c = search needs
-
-returns : tie.Need-returns
-returns c = search needs
-
 returns-2 : tie.Need-returns-2
 returns-2 c =
     let n = c .before .args .n in
@@ -24,4 +15,4 @@ returns-2 c =
     ap (toZ w32) e
 
 pub signed-of-spec : {M : Type 1} → statement M
-signed-of-spec = tie.close (tie.spec cast-result cast-result-2 returns returns-2)
+signed-of-spec = tie.close (tie.spec (λ c. search needs) (λ c. search needs) (λ c. search needs) returns-2)

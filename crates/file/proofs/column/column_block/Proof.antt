@@ -22,27 +22,6 @@ abbrev μ-loop : tie.MeasureT-loop
 loop-holds : tie.Need-loop-holds Inv-loop μ-loop
 loop-holds c = (zero-le, refl, pieces-none columnFields 8 column-size (c .args .t1) _ begun-none)
 
-mul-c : tie.Need-mul-c Inv-loop μ-loop
-mul-c c = omega arith
-
-array-copy-out-c : tie.Need-array-copy-out-c Inv-loop μ-loop
-array-copy-out-c c = omega arith
-
-slice-aggregate-put-column : tie.Need-slice-aggregate-put-column Inv-loop μ-loop
-slice-aggregate-put-column c = search needs
-
-mul-put-column : tie.Need-mul-put-column Inv-loop μ-loop
-mul-put-column c = omega arith
-
-put-column-requires : tie.Need-put-column-requires Inv-loop μ-loop
-put-column-requires c κs = omega arith
-
-add-i : tie.Need-add-i Inv-loop μ-loop
-add-i c = omega arith
-
-loop-less : tie.Need-loop-less Inv-loop μ-loop
-loop-less c = omega arith
-
 loop-again : tie.Need-loop-again Inv-loop μ-loop
 loop-again c =
     let l = c .before .before .before .before .before .loop in
@@ -51,9 +30,6 @@ loop-again c =
       c .before .put-column .kept .0 ∙ l .inv .1,
       rw (c .before .put-column .ensures) (pieces-more columnFields 8 column-size columns (l .b) (l .i) _ (search needs) (l .inv .2)),
     )
-
-seal-requires : tie.Need-seal-requires Inv-loop μ-loop
-seal-requires c κs = search needs
 
 returns : tie.Need-returns Inv-loop μ-loop
 returns c =
@@ -67,13 +43,13 @@ column-block-spec =
     Inv-loop
     μ-loop
     loop-holds
-    mul-c
-    array-copy-out-c
-    slice-aggregate-put-column
-    mul-put-column
-    put-column-requires
-    add-i
-    loop-less
+    (λ c. omega arith)
+    (λ c. omega arith)
+    (λ c. search needs)
+    (λ c. omega arith)
+    (λ c κs. omega arith)
+    (λ c. omega arith)
+    (λ c. omega arith)
     loop-again
-    seal-requires
+    (λ c κs. search needs)
     returns)

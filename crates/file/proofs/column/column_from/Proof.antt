@@ -5,15 +5,6 @@ use mir.ValLaws.{toZ-ofZ}
 use Rattle.file.proofs.column.column_from.Statement.{statement}
 use Rattle.file.proofs.column.column_from.Tie as tie
 
-signed-requires : tie.Need-signed-requires
-signed-requires c κs = search needs
-
-add-signed : tie.Need-add-signed
-add-signed c = search needs
-
-signed-requires-2 : tie.Need-signed-requires-2
-signed-requires-2 c κs = search needs
-
 returns : tie.Need-returns
 returns c = rw (
   toZ-ofZ w32 (c .before .signed .result) (record { sfits = c .before .signed .ok }),
@@ -23,4 +14,4 @@ returns c = rw (
 )
 
 pub column-from-spec : {M : Type 1} → statement M
-column-from-spec = tie.close (tie.spec signed-requires add-signed signed-requires-2 returns)
+column-from-spec = tie.close (tie.spec (λ c κs. search needs) (λ c. search needs) (λ c κs. search needs) returns)

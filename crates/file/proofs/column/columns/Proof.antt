@@ -19,27 +19,6 @@ loop-holds : tie.Need-loop-holds Inv-loop μ-loop
 unfolding table
 loop-holds c = (zero-le, refl, refl)
 
-mul-column-from : tie.Need-mul-column-from Inv-loop μ-loop
-mul-column-from c = omega arith
-
-add-column-from : tie.Need-add-column-from Inv-loop μ-loop
-add-column-from c = omega arith
-
-column-from-requires : tie.Need-column-from-requires Inv-loop μ-loop
-column-from-requires c κs = omega arith
-
-mul-columns : tie.Need-mul-columns Inv-loop μ-loop
-mul-columns c = omega arith
-
-array-set-from-columns : tie.Need-array-set-from-columns Inv-loop μ-loop
-array-set-from-columns c = omega arith
-
-add-i : tie.Need-add-i Inv-loop μ-loop
-add-i c = omega arith
-
-loop-less : tie.Need-loop-less Inv-loop μ-loop
-loop-less c = omega arith
-
 loop-again : tie.Need-loop-again Inv-loop μ-loop
 loop-again c =
     let l = c .before .before .loop in
@@ -58,12 +37,12 @@ columns-spec =
     Inv-loop
     μ-loop
     loop-holds
-    mul-column-from
-    add-column-from
-    column-from-requires
-    mul-columns
-    array-set-from-columns
-    add-i
-    loop-less
+    (λ c. omega arith)
+    (λ c. omega arith)
+    (λ c κs. omega arith)
+    (λ c. omega arith)
+    (λ c. omega arith)
+    (λ c. omega arith)
+    (λ c. omega arith)
     loop-again
     returns)

@@ -23,27 +23,6 @@ abbrev μ-loop : tie.MeasureT-loop
 loop-holds : tie.Need-loop-holds Inv-loop μ-loop
 loop-holds c = (zero-le, refl, pieces-none rowBytes 16 row-size (c .args .t1) _ begun-none)
 
-mul-row : tie.Need-mul-row Inv-loop μ-loop
-mul-row c = omega arith
-
-array-copy-out-row : tie.Need-array-copy-out-row Inv-loop μ-loop
-array-copy-out-row c = omega arith
-
-slice-aggregate-put-part : tie.Need-slice-aggregate-put-part Inv-loop μ-loop
-slice-aggregate-put-part c = search needs
-
-mul-put-part : tie.Need-mul-put-part Inv-loop μ-loop
-mul-put-part c = omega arith
-
-put-part-requires : tie.Need-put-part-requires Inv-loop μ-loop
-put-part-requires c κs = omega arith
-
-add-j : tie.Need-add-j Inv-loop μ-loop
-add-j c = omega arith
-
-loop-less : tie.Need-loop-less Inv-loop μ-loop
-loop-less c = omega arith
-
 loop-again : tie.Need-loop-again Inv-loop μ-loop
 loop-again c =
     let l = c .before .before .before .before .before .loop in
@@ -52,9 +31,6 @@ loop-again c =
       c .before .put-part .kept .0 ∙ l .inv .1,
       rw (c .before .put-part .ensures) (pieces-more rowBytes 16 row-size rows (l .b) (l .j) _ (search needs) (l .inv .2)),
     )
-
-seal-requires : tie.Need-seal-requires Inv-loop μ-loop
-seal-requires c κs = search needs
 
 returns : tie.Need-returns Inv-loop μ-loop
 returns c =
@@ -68,13 +44,13 @@ row-block-spec =
     Inv-loop
     μ-loop
     loop-holds
-    mul-row
-    array-copy-out-row
-    slice-aggregate-put-part
-    mul-put-part
-    put-part-requires
-    add-j
-    loop-less
+    (λ c. omega arith)
+    (λ c. omega arith)
+    (λ c. search needs)
+    (λ c. omega arith)
+    (λ c κs. omega arith)
+    (λ c. omega arith)
+    (λ c. omega arith)
     loop-again
-    seal-requires
+    (λ c κs. search needs)
     returns)

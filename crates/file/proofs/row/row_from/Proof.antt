@@ -8,36 +8,6 @@ use Rattle.file.proofs.Fields.{part-same}
 use Rattle.file.proofs.row.row_from.Statement.{statement}
 use Rattle.file.proofs.row.row_from.Tie as tie
 
-byte-requires : tie.Need-byte-requires
-byte-requires c κs = search needs
-
-add-byte : tie.Need-add-byte
-add-byte c = search needs
-
-byte-requires-2 : tie.Need-byte-requires-2
-byte-requires-2 c κs = search needs
-
-add-byte-2 : tie.Need-add-byte-2
-add-byte-2 c = search needs
-
-byte-requires-3 : tie.Need-byte-requires-3
-byte-requires-3 c κs = search needs
-
-add-signed : tie.Need-add-signed
-add-signed c = search needs
-
-signed-requires : tie.Need-signed-requires
-signed-requires c κs = search needs
-
-add-float : tie.Need-add-float
-add-float c = search needs
-
-float-requires : tie.Need-float-requires
-float-requires c κs = search needs
-
-part-of-requires : tie.Need-part-of-requires
-part-of-requires c κs = search needs
-
 returns : tie.Need-returns
 returns c =
     ap (λ (p : Part). record { part = p })
@@ -49,14 +19,14 @@ pub row-from-spec : {M : Type 1} → statement M
 row-from-spec =
     tie.close
     (tie.spec
-    byte-requires
-    add-byte
-    byte-requires-2
-    add-byte-2
-    byte-requires-3
-    add-signed
-    signed-requires
-    add-float
-    float-requires
-    part-of-requires
+    (λ c κs. search needs)
+    (λ c. search needs)
+    (λ c κs. search needs)
+    (λ c. search needs)
+    (λ c κs. search needs)
+    (λ c. search needs)
+    (λ c κs. search needs)
+    (λ c. search needs)
+    (λ c κs. search needs)
+    (λ c κs. search needs)
     returns)

@@ -19,27 +19,6 @@ loop-holds : tie.Need-loop-holds Inv-loop μ-loop
 unfolding table
 loop-holds c = (zero-le, refl, refl)
 
-mul-row-from : tie.Need-mul-row-from Inv-loop μ-loop
-mul-row-from c = omega arith
-
-add-row-from : tie.Need-add-row-from Inv-loop μ-loop
-add-row-from c = omega arith
-
-row-from-requires : tie.Need-row-from-requires Inv-loop μ-loop
-row-from-requires c κs = omega arith
-
-mul-rows : tie.Need-mul-rows Inv-loop μ-loop
-mul-rows c = omega arith
-
-array-set-from-rows : tie.Need-array-set-from-rows Inv-loop μ-loop
-array-set-from-rows c = omega arith
-
-add-j : tie.Need-add-j Inv-loop μ-loop
-add-j c = omega arith
-
-loop-less : tie.Need-loop-less Inv-loop μ-loop
-loop-less c = omega arith
-
 loop-again : tie.Need-loop-again Inv-loop μ-loop
 loop-again c =
     let l = c .before .before .loop in
@@ -58,12 +37,12 @@ rows-spec =
     Inv-loop
     μ-loop
     loop-holds
-    mul-row-from
-    add-row-from
-    row-from-requires
-    mul-rows
-    array-set-from-rows
-    add-j
-    loop-less
+    (λ c. omega arith)
+    (λ c. omega arith)
+    (λ c κs. omega arith)
+    (λ c. omega arith)
+    (λ c. omega arith)
+    (λ c. omega arith)
+    (λ c. omega arith)
     loop-again
     returns)

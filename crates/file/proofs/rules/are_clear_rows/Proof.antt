@@ -18,21 +18,6 @@ loop-holds : tie.Need-loop-holds Inv-loop μ-loop
 unfolding every
 loop-holds c = (zero-le, refl)
 
-mul-is-clear-row : tie.Need-mul-is-clear-row Inv-loop μ-loop
-mul-is-clear-row c = omega arith
-
-add-is-clear-row : tie.Need-add-is-clear-row Inv-loop μ-loop
-add-is-clear-row c = omega arith
-
-is-clear-row-requires : tie.Need-is-clear-row-requires Inv-loop μ-loop
-is-clear-row-requires c κs = omega arith
-
-add-j : tie.Need-add-j Inv-loop μ-loop
-add-j c = omega arith
-
-loop-less : tie.Need-loop-less Inv-loop μ-loop
-loop-less c = omega arith
-
 loop-again : tie.Need-loop-again Inv-loop μ-loop
 loop-again c = (omega arith, rw (every-step, c .before .before .loop .inv .1, c .is-clear-row .ensures))
 
@@ -49,10 +34,10 @@ are-clear-rows-spec =
     Inv-loop
     μ-loop
     loop-holds
-    mul-is-clear-row
-    add-is-clear-row
-    is-clear-row-requires
-    add-j
-    loop-less
+    (λ c. omega arith)
+    (λ c. omega arith)
+    (λ c κs. omega arith)
+    (λ c. omega arith)
+    (λ c. omega arith)
     loop-again
     returns)

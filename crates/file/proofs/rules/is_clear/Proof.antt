@@ -20,18 +20,6 @@ loop-holds : tie.Need-loop-holds Inv-loop μ-loop
 unfolding every
 loop-holds c = (zero-le, refl)
 
-add-clear : tie.Need-add-clear Inv-loop μ-loop
-add-clear c = omega arith
-
-shared-slice-read-clear : tie.Need-shared-slice-read-clear Inv-loop μ-loop
-shared-slice-read-clear c = omega arith
-
-add-i : tie.Need-add-i Inv-loop μ-loop
-add-i c = omega arith
-
-loop-less : tie.Need-loop-less Inv-loop μ-loop
-loop-less c = omega arith
-
 loop-again : tie.Need-loop-again Inv-loop μ-loop
 loop-again c = (omega arith, rw (every-step, c .before .before .loop .inv .1))
 
@@ -49,9 +37,9 @@ is-clear-spec =
     Inv-loop
     μ-loop
     loop-holds
-    add-clear
-    shared-slice-read-clear
-    add-i
-    loop-less
+    (λ c. omega arith)
+    (λ c. omega arith)
+    (λ c. omega arith)
+    (λ c. omega arith)
     loop-again
     returns)

@@ -3,27 +3,6 @@ use borrow.Author.Needs.{needs}
 use Rattle.file.proofs.rules.is_clear_file.Statement.{statement}
 use Rattle.file.proofs.rules.is_clear_file.Tie as tie
 
-byte-requires : tie.Need-byte-requires
-byte-requires c κs = search needs
-
-is-clear-requires : tie.Need-is-clear-requires
-is-clear-requires c κs = search needs
-
-is-clear-requires-2 : tie.Need-is-clear-requires-2
-is-clear-requires-2 c κs = search needs
-
-is-clear-requires-3 : tie.Need-is-clear-requires-3
-is-clear-requires-3 c κs = search needs
-
-are-clear-rows-requires : tie.Need-are-clear-rows-requires
-are-clear-rows-requires c κs = search needs
-
-is-clear-requires-4 : tie.Need-is-clear-requires-4
-is-clear-requires-4 c κs = search needs
-
-is-clear-requires-5 : tie.Need-is-clear-requires-5
-is-clear-requires-5 c κs = search needs
-
 returns : tie.Need-returns
 returns c =
     let rows = c .before .before in
@@ -42,11 +21,11 @@ pub is-clear-file-spec : {M : Type 1} → statement M
 is-clear-file-spec =
     tie.close
     (tie.spec
-    byte-requires
-    is-clear-requires
-    is-clear-requires-2
-    is-clear-requires-3
-    are-clear-rows-requires
-    is-clear-requires-4
-    is-clear-requires-5
+    (λ c κs. search needs)
+    (λ c κs. search needs)
+    (λ c κs. search needs)
+    (λ c κs. search needs)
+    (λ c κs. search needs)
+    (λ c κs. search needs)
+    (λ c κs. search needs)
     returns)

@@ -12,12 +12,6 @@ returns : tie.Need-returns
 unfolding handed
 returns c = sym (length-stop (c .before .before .args .s .now) (c .if1 .taken))
 
-wrong-check-requires : tie.Need-wrong-check-requires
-wrong-check-requires c κs = search needs
-
-number-requires : tie.Need-number-requires
-number-requires c κs = search needs
-
 returns-2 : tie.Need-returns-2
 returns-2 c =
     let w = c .before .before .wrong-check .ensures in
@@ -28,9 +22,6 @@ returns-2 c =
 right : (c : tie.Else2) → judge (rule 2 checks ∷ []) (c .before .before .before .before .before .args .s .now) .number ≡ 0
 right c = sym (ap (λ n. n .number) (c .before .before .wrong-check .ensures)) ∙ sym (c .before .number .ensures) ∙ c .if2 .left
 
-number-requires-2 : tie.Need-number-requires-2
-number-requires-2 c κs = search needs
-
 returns-3 : tie.Need-returns-3
 unfolding handed
 returns-3 c =
@@ -40,9 +31,6 @@ returns-3 c =
 -- the version is 1, past the third
 first : (c : tie.Else3) → numberAt 2 0 (c .before .before .before .before .before .before .before .args .s .now) ≡ 1
 first c = sym (c .before .number2 .ensures .0) ∙ c .if3 .left
-
-is-clear-file-requires : tie.Need-is-clear-file-requires
-is-clear-file-requires c κs = search needs
 
 returns-4 : tie.Need-returns-4
 unfolding handed
@@ -67,11 +55,11 @@ judged-spec =
     tie.close
     (tie.spec
     returns
-    wrong-check-requires
-    number-requires
+    (λ c κs. search needs)
+    (λ c κs. search needs)
     returns-2
-    number-requires-2
+    (λ c κs. search needs)
     returns-3
-    is-clear-file-requires
+    (λ c κs. search needs)
     returns-4
     returns-5)

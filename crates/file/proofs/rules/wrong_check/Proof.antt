@@ -23,12 +23,6 @@ loop-holds : tie.Need-loop-holds Inv-loop μ-loop
 unfolding lowest
 loop-holds c = (zero-le, refl)
 
-is-wrong-requires : tie.Need-is-wrong-requires Inv-loop μ-loop
-is-wrong-requires c κs = search needs
-
-cast-t5 : tie.Need-cast-t5 Inv-loop μ-loop
-cast-t5 c = omega arith
-
 returns : tie.Need-returns Inv-loop μ-loop
 unfolding checks handed
 returns c =
@@ -36,12 +30,6 @@ returns c =
     let l = c .before .before .before .loop in
     let e : wrongBlock s (l .k) ≡ true = sym (c .before .is-wrong .ensures) ∙ c .if1 .taken in
     sym (judge-fail (rule 2 checks) [] s (l .k) (lowest-stop (wrongBlock s) 3 (l .k) (l .inv .1) (omega arith) e))
-
-add-k : tie.Need-add-k Inv-loop μ-loop
-add-k c = omega arith
-
-loop-less : tie.Need-loop-less Inv-loop μ-loop
-loop-less c = omega arith
 
 loop-again : tie.Need-loop-again Inv-loop μ-loop
 loop-again c =
@@ -64,10 +52,10 @@ wrong-check-spec =
     Inv-loop
     μ-loop
     loop-holds
-    is-wrong-requires
-    cast-t5
+    (λ c κs. search needs)
+    (λ c. omega arith)
     returns
-    add-k
-    loop-less
+    (λ c. omega arith)
+    (λ c. omega arith)
     loop-again
     returns-2)
