@@ -4,3 +4,4 @@ pub mod Tight
 pub mod Cutting
 pub mod RunBound
 pub mod Curve
+pub mod OneAnswer
