@@ -4,6 +4,7 @@ ghost use mathlib.Core.Path.{_≡_};
 ghost use Rattle.circuit.specs.Numbers.{handed};
 use circuit::Answer;
 
+// From 0, done, to 15.
 pub fn number(a: Answer) -> u64
     ensures { λ r. ⌜ r ≡ handed a .number ⌝ }
 {
@@ -27,6 +28,7 @@ pub fn number(a: Answer) -> u64
     }
 }
 
+// A block, a row (255 for the input or the tap), a column, or the index of a sample; 0 where a number has no place.
 pub fn place(a: Answer) -> u64
     ensures { λ r. ⌜ r ≡ handed a .place ⌝ }
 {

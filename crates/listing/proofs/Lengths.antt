@@ -1,11 +1,11 @@
 -- How long the texts of a listing can be: a number has at most eight digits, a kind's name at most nine letters, a row's line at most 28 bytes.
 use Prim.Native.Nat.{ℕ, zero, suc, _+_, _*_, _≤_}
 use native.Mathlib.Numerals.{add-one}
-use mathlib.Core.Path.{_≡_}
 use native.Mathlib.Omega.{arith}
-use mathlib.Core.List.{List, _++_}
+use mathlib.Core.Path.{_≡_}
+use mathlib.Core.List.{List}
 use lib.ListN.{length, length-append}
-use Rattle.circuit.specs.Text.{text, decimal}
+use Rattle.circuit.specs.Text.{text}
 use Rattle.circuit.specs.Listing.{elementName, joinName}
 use Rattle.circuit.specs.declared.Element.{Element}
 use Rattle.circuit.specs.declared.Element.the-variants.{Resistor, Capacitor, Inductor, Input, Steady}
@@ -40,11 +40,11 @@ unfolding text
 join-short Series = omega arith
 join-short Parallel = omega arith
 
-pub leaf-short : (j : ℕ) (e : Element) → length (leafLine j e) ≤ 28
+leaf-short : (j : ℕ) (e : Element) → length (leafLine j e) ≤ 28
 unfolding leafLine text
 leaf-short j e = simp length-append (omega (arith, number-short j (text " "), element-short e))
 
-pub adaptor-short : (j : ℕ) (k : Join) (ratio : ℕ) → length (adaptorLine j k ratio) ≤ 28
+adaptor-short : (j : ℕ) (k : Join) (ratio : ℕ) → length (adaptorLine j k ratio) ≤ 28
 unfolding adaptorLine text
 adaptor-short j k ratio = simp length-append (omega (arith, number-short j (text " "), join-short k, number-short ratio (text "\n")))
 

@@ -1,4 +1,4 @@
--- Laws of a text in a buffer: no text, one byte, and one text after another. A decimal number has at most as many digits as it is given room for.
+-- Laws of a text in a buffer: no text, one byte, and one text after another; and of a number's digits, of which there are no more than asked.
 use Prim.Native.Nat.{ℕ, zero, suc, _+_, _-_, _/_, _%_, _≤_, _<_}
 use native.Mathlib.Nat.{add-zero, zero-add, add-assoc, le-refl}
 use native.Mathlib.Numerals.{add-one}
@@ -9,7 +9,7 @@ use mathlib.Core.List.{List, [], _∷_, _++_, append-nil, append-assoc}
 use lib.Dec.{ltb}
 use borrow.Author.Tests.{lt-ltb, le-ltb}
 use lib.ListN.{length, take, drop, set, take-append-drop, length-append}
-use lib.Seq.{set-split, append-snoc, paste, length-paste, take-paste, drop-paste, take-length, drop-drop}
+use lib.Seq.{set-split, append-snoc, paste, take-paste, drop-paste, take-length, drop-drop}
 use Rattle.circuit.specs.Text.{digits}
 use Rattle.listing.specs.Writing.{Puts}
 
@@ -29,9 +29,6 @@ puts-byte b at out h = record { ends = refl; bytes = rw add-one (set-split out a
 module _ {t out mid : List ℕ} {at n : ℕ} (room : n ≤ length out) (p : Puts t at out n mid) where
   pasted : mid ≡ paste out at t (length t)
   pasted = rw take-length (p .bytes)
-
-  pub puts-length : length mid ≡ length out
-  puts-length = ap length pasted ∙ length-paste out at t (length t) (omega (arith, p .ends)) (le-refl _)
 
   pub puts-then : {u after : List ℕ} {m : ℕ} → Puts u n mid m after → Puts (t ++ u) at out m after
   puts-then {u} {after} {m} q =

@@ -15,6 +15,9 @@ use circuit::Record;
 use row::put_rows;
 use text::put_numbers;
 
+// Room for any listing: it has at most 27 bytes, and 28 for each of 31 rows.
+pub type Page = [u8; 1024];
+
 // The lines of a record that set-up accepts, with the rows that it prepared.
 fn put_accepted(out: &mut [u8], r: Record, prepared: [Prepared; ROWS]) -> usize
     requires { ⌜ (setUpReport r .number ≡ 0) × (prepared ≡ setUpRows r) × (1024 ≤ length (now out)) ⌝ }
@@ -26,7 +29,7 @@ fn put_accepted(out: &mut [u8], r: Record, prepared: [Prepared; ROWS]) -> usize
 }
 
 // The listing of a file's bytes, at the start of `out`, and its length. The bytes after it stay as they were.
-pub fn list(s: &[u8], out: &mut [u8; 1024]) -> usize
+pub fn list(s: &[u8], out: &mut Page) -> usize
     ensures length { λ n. ⌜ n ≡ length (listing (now (s .entry))) ⌝ }
     ensures text { λ _. ⌜ now (out .exit) ≡ listing (now (s .entry)) ++ drop (length (listing (now (s .entry)))) (now (out .entry)) ⌝ }
 {

@@ -1,10 +1,10 @@
 -- The rows that set-up fills. An adaptor's row follows from its children's, so rows filled from the lowest up are those of the record; rule 9
 -- reads the same of a held ratio as of the ratio itself; and where rule 9 passes the filled rows are the prepared rows.
 use Prim.Native.Nat.{ℕ, _≤_, _<_}
+use native.Mathlib.Decide.{decLt}
 use native.Mathlib.Omega.{arith}
 use mathlib.Core.Path.{_≡_, refl, sym, ap, ap₂, _∙_}
 use mathlib.Core.Bool.{Bool, true, false, not, and-false, and-eq-true-iff}
-use mathlib.Core.Logic.{_⊎_, inl, inr}
 use mathlib.Core.List.{List}
 use borrow.Author.Tests.{leb-true, lt-ltb, ltb-false, lt-leb, not-false}
 use lib.Dec.{leb, ltb}
@@ -24,7 +24,6 @@ use Rattle.laws.proofs.Trees.{tree-blank, tree-leaf, resistance-leaf, resistanc
 use Rattle.setup.specs.Faults.{faulty}
 use Rattle.setup.specs.Ratio.{held}
 use Rattle.setup.specs.Rows.{past, joinedRow, preparedFrom, heldPart, heldRows}
-use Rattle.setup.proofs.Tests.{below-or-not}
 
 module _ (r : Record) (lower : (j : ℕ) → Lower j (partAt r j)) where
   -- ---- a row's resistance
@@ -87,14 +86,14 @@ module _ (r : Record) (blank : (j : ℕ) → r .count ≤ j → partAt r j ≡ B
   kept : (j : ℕ) (p : Part) → partAt r j ≡ p → heldPart r j p ≡ preparedPart r j p
   kept j Blank e = refl
   kept j (Leaf x) e = refl
-  kept j (Adaptor a) e = ap (λ (g : ℕ). record { resistance = resistanceAt r j; ratio = g }) (whole (below-or-not j (r .count)))
+  kept j (Adaptor a) e = ap (λ (g : ℕ). record { resistance = resistanceAt r j; ratio = g }) (whole (decLt j (r .count)))
     where
-      whole : (j < r .count) ⊎ (r .count ≤ j) → held (ratioAt r j) ≡ ratioAt r j
-      whole (inl l) =
+      whole : Dec (j < r .count) → held (ratioAt r j) ≡ ratioAt r j
+      whole (yes l) =
           let between-them = not-false _ (rw e at (in-parts j l)) in
           let small : ratioAt r j ≤ 16777215 = leb-true (ratioAt r j) 16777215 (and-eq-true-iff (leb 1 (ratioAt r j)) (leb (ratioAt r j) 16777215) .0 between-them .1) in
           rw (lt-ltb (ratioAt r j) parts (omega arith)) refl
-      whole (inr m) = absurd (is-blank (sym e ∙ blank j m))
+      whole (no m) = absurd (is-blank (sym e ∙ blank j (omega arith)))
         where
           is-blank : Adaptor a ≡ Blank → ⊥
           is-blank q = let z : _≡_ {A = ℕ} 0 1 = cc in omega arith

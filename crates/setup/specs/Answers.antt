@@ -4,7 +4,7 @@ use mathlib.Core.Bool.{cond}
 use mathlib.Core.List.{List, [], _∷_}
 use lib.Dec.{eqb}
 use Rattle.circuit.specs.Numbers.{Report, report, done, handed, Verdict, passes, fails, Rule, rule}
-use Rattle.circuit.specs.Record.{rowLimit, columnLimit, rate, childrenLower, usedOnce, inputAndTap, values}
+use Rattle.circuit.specs.Record.{rowLimit, columnLimit, form, rate, childrenLower, usedOnce, inputAndTap, values}
 use Rattle.circuit.specs.Curve.{columnRule}
 use Rattle.circuit.specs.SetUp.{portResistances, ratios, curveResistance}
 use Rattle.circuit.specs.declared.Answer.{Answer}
@@ -18,6 +18,10 @@ numbered n (fails p) = report n p
 -- one answer, and where it is done another
 unfoldable pub firstOf : Answer → Answer → Answer
 firstOf a b = cond (eqb (handed a .number) 0) b a
+
+-- 4: what the later rules rest on
+unfoldable pub formRules : List (Rule Record)
+formRules = rule 4 form ∷ []
 
 -- 5 to 7: what the rows alone show
 unfoldable pub treeRules : List (Rule Record)

@@ -65,6 +65,8 @@ fn refused(a: Answer) -> SetUp
     SetUp { answer: a, rows }
 }
 
+// The rules in order, over any record at all: the lowest number that applies, with its place, or done. Where every rule passes the rows are
+// prepared, and else they are zeros.
 pub fn set_up(r: Record) -> SetUp
     ensures number { λ s. ⌜ handed (s .answer) ≡ setUpReport r ⌝ }
     ensures rows { λ s. ⌜ s .rows ≡ setUpRows r ⌝ }

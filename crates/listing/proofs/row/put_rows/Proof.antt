@@ -1,5 +1,5 @@
 -- `put_rows` meets its contract. The loop's invariant: the lines of the rows passed stand in the buffer.
-use Prim.Native.Nat.{_+_, _-_, _*_, _≤_}
+use Prim.Native.Nat.{_-_, _≤_}
 use native.Mathlib.Omega.{arith}
 use mathlib.Core.Path.{_≡_, refl, _∙_}
 use lib.ListN.{length}

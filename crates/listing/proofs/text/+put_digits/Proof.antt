@@ -1,5 +1,5 @@
 -- `put_digits` meets its contract: it goes as the definition of `digits` does, one digit fewer at each call of itself.
-use Prim.Native.Nat.{ℕ, _+_, _-_, _/_, _≤_, _<_}
+use Prim.Native.Nat.{ℕ, _-_, _/_, _≤_, _<_}
 use native.Mathlib.Omega.{arith}
 use mathlib.Core.Path.{_∙_}
 use Rattle.listing.proofs.Texts.{puts-none, puts-then, digits-none, digits-one, digits-more, digits-short}

@@ -1,6 +1,5 @@
 -- `put_text` meets its contract. The loop's invariant: the first i bytes of the text stand in the buffer from the place on, and every other byte is as it was.
-use Prim.Native.Nat.{_+_, _-_, _≤_}
-use native.Mathlib.Nat.{le-antisymm}
+use Prim.Native.Nat.{_-_, _≤_}
 use native.Mathlib.Numerals.{add-one}
 use native.Mathlib.Omega.{arith}
 use mathlib.Core.Path.{_≡_, refl}

@@ -1,9 +1,10 @@
 -- `setup::tree::leaf_at` meets its contract: past the rows the definition has a blank one.
 use native.Mathlib.Omega.{arith}
 use mathlib.Core.Path.{_≡_, sym, ap}
-use lib.ListN.{length, length-map, List·getD-eq-default}
+use lib.ListN.{length, List·getD-eq-default}
 use borrow.Author.Needs.{needs}
 use Rattle.circuit.specs.Record.{isLeaf}
+use Rattle.setup.proofs.Sizes.{sized}
 use Rattle.circuit.specs.declared.Part.the-variants.{Blank}
 use Rattle.circuit.specs.declared.Row.{Row}
 use Rattle.setup.proofs.tree.leaf_at.Statement.{statement}
@@ -11,7 +12,7 @@ use Rattle.setup.proofs.tree.leaf_at.Tie as tie
 
 -- what holding a record says of its field of rows
 rows-long : (c : tie.Start) → length (c .args .t1 .rows) ≡ 31
-rows-long c = simp length-map at (c .good .0 .1 .1 .1 .1 .1 .0 .1 .0 .1)
+rows-long c = sized (c .args .t1) (c .good .0) .rows
 
 returns-2 : tie.Need-returns-2
 returns-2 c =
