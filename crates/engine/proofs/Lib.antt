@@ -16,3 +16,5 @@ pub mod Sending
 pub mod Sampling
 pub mod Finishing
 pub mod Refusing
+pub mod Loading
+pub mod Holding

@@ -3,3 +3,4 @@ pub mod Wave
 pub mod Plan
 pub mod Sweep
 pub mod Sample
+pub mod Play

@@ -19,7 +19,7 @@ ghost use Rattle.circuit.specs.Run.{isReactive, soundWave, storedWaves, runRule
 ghost use Rattle.laws.specs.Call.{call};
 ghost use Rattle.setup.specs.Answers.{numbered};
 
-fn is_reactive(e: Element) -> bool
+pub fn is_reactive(e: Element) -> bool
     ensures { λ b. ⌜ b ≡ isReactive e ⌝ }
 {
     match e {

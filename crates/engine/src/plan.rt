@@ -1,4 +1,5 @@
 // What a run lays out of a record before its first sample: a word for each row, and lists of the rows that a sweep visits.
+use crate::check::is_reactive;
 use circuit::Adaptor;
 use circuit::CurveKind;
 use circuit::Element;
@@ -7,11 +8,14 @@ use circuit::Part;
 use circuit::Prepared;
 use circuit::ROWS;
 use circuit::Row;
+use circuit::TOP;
 ghost use mathlib.Core.Path.{_≡_};
+ghost use mathlib.Core.Bool.{true, cond};
 ghost use Prim.Native.Nat.{ℕ, _≤_, _<_};
+ghost use lib.Dec.{eqb};
 ghost use lib.ListN.{getD};
-ghost use Rattle.circuit.specs.Record.{isLeaf};
-ghost use Rattle.circuit.specs.Run.{isReactive};
+ghost use Rattle.circuit.specs.Counting.{total, one};
+ghost use Rattle.circuit.specs.Record.{isLeaf, isInput};
 ghost use Rattle.circuit.specs.declared.Part.{Part};
 ghost use Rattle.engine.specs.Plan.{joinOf, codeOf, linkOf, Says, isAdaptor, isReactivePart, chosenBy, enteredIf, partIn, ratioIn, Lists};
 
@@ -153,24 +157,12 @@ fn is_leaf(part: Part) -> bool
     }
 }
 
-fn reacts(e: Element) -> bool
-    ensures { λ r. ⌜ r ≡ isReactive e ⌝ }
-{
-    match e {
-        Element::Resistor(_) => false,
-        Element::Capacitor(_) => true,
-        Element::Inductor(_) => true,
-        Element::Input(_) => false,
-        Element::Steady(_, _) => false,
-    }
-}
-
-fn is_reactive(part: Part) -> bool
+fn keeps_wave(part: Part) -> bool
     ensures { λ r. ⌜ r ≡ isReactivePart part ⌝ }
 {
     match part {
         Part::Blank => false,
-        Part::Leaf(e) => reacts(e),
+        Part::Leaf(e) => is_reactive(e),
         Part::Adaptor(_) => false,
     }
 }
@@ -181,7 +173,7 @@ fn chosen(choice: Choice, part: Part) -> bool
     match choice {
         Choice::Adaptors => is_adaptor(part),
         Choice::Leaves => is_leaf(part),
-        Choice::Reactive => is_reactive(part),
+        Choice::Reactive => keeps_wave(part),
     }
 }
 
@@ -215,4 +207,50 @@ pub fn rows_of(rows: [Row; ROWS], count: usize, choice: Choice) -> Listed
         list = entered(list, i, chosen(choice, part));
     }
     list
+}
+
+fn is_input(part: Part) -> bool
+    ensures { λ r. ⌜ r ≡ isInput part ⌝ }
+{
+    match part {
+        Part::Blank => false,
+        Part::Leaf(e) => takes_sample(e),
+        Part::Adaptor(_) => false,
+    }
+}
+
+fn takes_sample(e: Element) -> bool
+    ensures { λ r. ⌜ r ≡ isInput (Part.Leaf e) ⌝ }
+{
+    match e {
+        Element::Resistor(_) => false,
+        Element::Capacitor(_) => false,
+        Element::Inductor(_) => false,
+        Element::Input(_) => true,
+        Element::Steady(_, _) => false,
+    }
+}
+
+// The row of the one input.
+pub fn input_row(rows: [Row; ROWS], count: usize) -> usize
+    requires { ⌜ (count ≤ 31) × (0 < total (λ j. one (isInput (partIn rows j))) count) ⌝ }
+    ensures { λ r. ⌜ (r < count) × (isInput (partIn rows r) ≡ true) ⌝ }
+{
+    let mut i: usize = 0;
+    while i < count {
+        let row = rows[i];
+        let part = row.part;
+        if is_input(part) {
+            return i;
+        }
+        i += 1;
+    }
+    i
+}
+
+// The row that a tap reads: at the top the two waves are the top's and the diode's.
+pub fn tap_row(tap: u8, last: usize) -> usize
+    ensures { λ r. ⌜ r ≡ cond (eqb tap 255) last tap ⌝ }
+{
+    if tap == TOP { last } else { wide(tap) }
 }

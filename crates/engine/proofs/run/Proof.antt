@@ -1,0 +1,63 @@
+-- `run` meets its contract: a call that 4 to 13 refuse is turned away, and any other is played.
+use Prim.Native.Nat.{ℕ, _<_}
+use native.Mathlib.Omega.{arith}
+use mathlib.Core.Path.{_≡_, refl, sym, ap, _∙_, subst}
+use mathlib.Core.List.{List}
+use mathlib.Core.Bool.{cond}
+use lib.ListN.{length, length-map}
+use borrow.Author.Needs.{needs}
+use borrow.Author.Tests.{eq-eqb}
+use Rattle.circuit.specs.Numbers.{handed, done, judge}
+use Rattle.circuit.specs.SetUp.{setUpReport, setUpRows, preparedRows}
+use Rattle.circuit.specs.Run.{Call, Ran, runRules, ran, turnedAway}
+use Rattle.circuit.specs.declared.Record.{Record}
+use Rattle.laws.specs.Call.{call}
+use Rattle.laws.proofs.Running.{Allowed, zero-allowed, ran-refused}
+use Rattle.laws.proofs.Sizes.{sized}
+use Rattle.engine.proofs.Holding.{state-sized}
+use Rattle.engine.proofs.run.Statement.{statement}
+use Rattle.engine.proofs.run.Tie as tie
+
+abbrev called : tie.Start → Call
+called c = call (c .args .r) (c .args .state .waves) (c .args .input .now) (c .args .output .now)
+
+set-up-requires : tie.Need-set-up-requires
+set-up-requires c κs = search needs
+
+refusal-requires : tie.Need-refusal-requires
+refusal-requires c κs = search needs
+
+number-requires : tie.Need-number-requires
+number-requires c κs = search needs
+
+-- 4 to 13 of this call
+judged : (c : tie.After-refusal) → handed (c .refusal .result) ≡ judge runRules (called (c .before .before .before))
+judged c = c .refusal .ensures (c .before .before .before .args .input .now) (c .before .before .before .args .output .now) refl refl
+
+returns : tie.Need-returns
+returns c =
+    let j = judged (c .before .before) in
+    let above : 0 < judge runRules (called (c .before .before .before .before .before)) .number = rw (← j) (omega (arith, c .before .number .ensures, c .if1 .taken)) in
+    let e : ran (called (c .before .before .before .before .before)) ≡ turnedAway (called (c .before .before .before .before .before)) (judge runRules (called (c .before .before .before .before .before))) = ran-refused (called (c .before .before .before .before .before)) above in
+    rw e (j, (refl, (refl, refl)))
+
+-- none of them applies
+passed : (c : tie.Else1) → judge runRules (called (c .before .before .before .before .before)) .number ≡ 0
+passed c = ap (λ n. n .number) (sym (judged (c .before .before))) ∙ sym (c .before .number .ensures) ∙ c .if1 .left
+
+-- set-up's rows, where it refuses nothing
+kept-rows : (r : Record) → setUpReport r ≡ done → setUpRows r ≡ preparedRows r
+unfolding setUpRows
+kept-rows r e = rw e
+
+play-requires : tie.Need-play-requires
+play-requires c κs = record { sized = sized (c .before .before .before .before .before .before .args .r) _ (c .before .before .before .before .before .before .good .0); stored = state-sized (c .before .before .before .before .before .before .args .state) _ (c .before .before .before .before .before .before .good .1 .0); prepared = c .before .before .before .before .before .set-up .ensures .1 ∙ kept-rows (c .before .before .before .before .before .before .args .r) (zero-allowed (called (c .before .before .before .before .before .before)) (passed (c .before)) .setUp); allowed = passed (c .before) }
+
+returns-2 : tie.Need-returns-2
+returns-2 c = rw (c .before .play .ensures) (refl, (refl, (refl, refl)))
+
+same-length : tie.Need-same-length
+same-length c = search needs
+
+pub run-spec : {M : Type 1} → statement M
+run-spec = tie.close (tie.spec set-up-requires refusal-requires number-requires returns play-requires same-length returns-2)

@@ -1,0 +1,189 @@
+// The samples of a run, in order: the plan is laid out once, and each sample starts from the waves that the one before it stored.
+use crate::curve::lay_out;
+use crate::leaf::part_sends;
+use crate::leaf::part_taken;
+use crate::plan::Choice;
+use crate::plan::Shape;
+use crate::plan::input_row;
+use crate::plan::rows_of;
+use crate::plan::tap_row;
+use crate::plan::wide;
+use crate::plan::words;
+use crate::sample::Outcome;
+use crate::sample::sample;
+use circuit::Answer;
+use circuit::Prepared;
+use circuit::Progress;
+use circuit::ROWS;
+use circuit::Record;
+use circuit::Row;
+use circuit::State;
+use circuit::Wave;
+ghost use mathlib.Core.Path.{_≡_};
+ghost use Prim.Native.Nat.{ℕ, _<_};
+ghost use lib.IntN.{pos};
+ghost use lib.ListN.{length};
+ghost use Rattle.whole.specs.Order.{Abs};
+ghost use Rattle.circuit.specs.Curve.{waveLimit};
+ghost use Rattle.circuit.specs.Sample.{partSends};
+ghost use Rattle.engine.specs.Wave.{counting};
+ghost use Rattle.engine.specs.Plan.{partIn, partTaken};
+ghost use Rattle.engine.specs.Sweep.{waveAt};
+ghost use Rattle.engine.specs.Sample.{Ready};
+ghost use Rattle.engine.specs.Play.{silence, Plays, Playable, progress};
+ghost use Rattle.circuit.specs.Run.{ran};
+ghost use Rattle.laws.specs.Call.{call};
+
+// What each row sends from its stored wave; the input's row waits for a sample.
+fn load(rows: [Row; ROWS], state: State) -> [i64; ROWS]
+    ensures { λ r. ⌜ (length r ≡ 31) × ((j : ℕ) → j < 31 → waveAt r j ≡ partSends counting (pos 0) (waveAt (state .waves) j) (partIn rows j)) ⌝ }
+{
+    let mut up = [0i64; ROWS];
+    for i in 0..ROWS {
+        let row = rows[i];
+        let part = row.part;
+        let sent = part_sends(part, state.waves[i], 0);
+        let next = sent.0;
+        up[i] = next;
+    }
+    up
+}
+
+// The stored waves, out of what the rows send next.
+fn unload(rows: [Row; ROWS], up: [i64; ROWS]) -> State
+    requires { ⌜ ((j : ℕ) → j < 31 → Abs (partTaken (partIn rows j) (waveAt up j)) waveLimit) ⌝ }
+    ensures { λ r. ⌜ (length (r .waves) ≡ 31) × ((j : ℕ) → j < 31 → waveAt (r .waves) j ≡ partTaken (partIn rows j) (waveAt up j)) ⌝ }
+{
+    let mut state = State {
+        waves: [0i32; ROWS],
+    };
+    for i in 0..ROWS {
+        let row = rows[i];
+        let part = row.part;
+        let taken = part_taken(part, Wave(up[i]));
+        let stored = taken.0 as i32;
+        state.waves[i] = stored;
+    }
+    state
+}
+
+// How many samples are done, and why no more are.
+pub struct Stop {
+    pub answer: Answer,
+    pub done: usize,
+}
+
+fn samples(
+    shape: Shape,
+    words: &[u64; ROWS],
+    adaptors: &[u8; ROWS],
+    leaves: &[u8; ROWS],
+    reactive: &[u8; ROWS],
+    xs: &[i64],
+    ys: &[i64],
+    up: &mut [i64; ROWS],
+    input: &[i32],
+    output: &mut [i32],
+) -> Stop
+    requires { ⌜ Ready shape (now words) (now adaptors) (now leaves) (now reactive) (now xs) (now ys) (now up) silence × (length (now input) ≡ length (now output)) ⌝ }
+    ensures { λ s. ⌜ Plays shape (now (words .entry)) (now (adaptors .entry)) (now (leaves .entry)) (now (reactive .entry)) (now (xs .entry)) (now (ys .entry)) (now (up .entry)) (now (input .entry)) (now (output .entry)) s (now (up .exit)) (now (output .exit)) ⌝ }
+{
+    let mut down = [0i64; ROWS];
+    let mut i: usize = 0;
+    while i < input.len() {
+        let x = input[i];
+        let outcome = sample(
+            shape,
+            words,
+            adaptors,
+            leaves,
+            reactive,
+            xs,
+            ys,
+            up,
+            &mut down,
+            x,
+        );
+        match outcome {
+            Outcome::Loud => {
+                return Stop {
+                    answer: Answer::Sample(i),
+                    done: i,
+                };
+            }
+            Outcome::Over => {
+                return Stop {
+                    answer: Answer::Overload(i),
+                    done: i,
+                };
+            }
+            Outcome::Finished(v) => {
+                let doubled = v.0;
+                output[i] = doubled;
+            }
+        }
+        i += 1;
+    }
+    Stop {
+        answer: Answer::Done,
+        done: i,
+    }
+}
+
+// A call that 4 to 13 do not refuse; `prepared` are the record's rows after set-up.
+pub fn play(
+    r: Record,
+    prepared: [Prepared; ROWS],
+    state: State,
+    input: &[i32],
+    output: &mut [i32],
+) -> Progress
+    requires { ⌜ Playable r prepared (state .waves) (now input) (now output) ⌝ }
+    ensures { λ p. ⌜ ran (call r (state .waves) (now (input .entry)) (now (output .entry))) ≡ progress p (now (output .exit)) ⌝ }
+{
+    let rows = r.rows;
+    let count = wide(r.count);
+    let words = words(rows, prepared);
+    let adaptors = rows_of(rows, count, Choice::Adaptors);
+    let leaves = rows_of(rows, count, Choice::Leaves);
+    let reactive = rows_of(rows, count, Choice::Reactive);
+    let last = count - 1;
+    let kind = r.kind;
+    let shape = Shape {
+        adaptors: adaptors.length,
+        leaves: leaves.length,
+        reactive: reactive.length,
+        input: input_row(rows, count),
+        last,
+        tap: tap_row(r.tap, last),
+        kind,
+    };
+    let columns = r.columns;
+    let axes = lay_out(columns);
+    let width = wide(r.width);
+    let xs = axes.xs;
+    let ys = axes.ys;
+    let joints = adaptors.rows;
+    let ends = leaves.rows;
+    let stores = reactive.rows;
+    let mut up = load(rows, state);
+    let stop = samples(
+        shape,
+        &words,
+        &joints,
+        &ends,
+        &stores,
+        &xs[..width],
+        &ys[..width],
+        &mut up,
+        input,
+        output,
+    );
+    let answer = stop.answer;
+    let after = unload(rows, up);
+    Progress {
+        answer,
+        done: stop.done,
+        state: after,
+    }
+}
