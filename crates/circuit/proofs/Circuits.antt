@@ -6,7 +6,7 @@ use lib.ListN.{length, replicate}
 use lib.IntN.{ℤ, pos, negsuc, negℤ}
 use lib.Ieee.{Float, fin, binary64, ofInt}
 use Rattle.circuit.specs.Record.{rowLimit, columnLimit}
-use Rattle.circuit.specs.Run.{Call, Ran, freshWaves, ran}
+use Rattle.circuit.specs.Run.{Call, Ran, call, freshWaves, ran}
 use Rattle.circuit.specs.declared.Element.{Element}
 use Rattle.circuit.specs.declared.Element.the-variants.{Resistor, Capacitor, Inductor, Input, Steady}
 use Rattle.circuit.specs.declared.Join.{Join}
@@ -97,8 +97,8 @@ curved kind cs = circuit (input (ohms 1000) ∷ resistor (ohms 3000) ∷ joins P
 
 -- ---- a run from a fresh state, its output in a buffer of sevens
 
-abbrev pub call : Record → List ℤ → List ℤ → Call
-call r waves xs = record { circuit = r; waves = waves; input = xs; output = replicate (length xs) (pos 7) }
+abbrev pub calling : Record → List ℤ → List ℤ → Call
+calling r waves xs = call r waves xs (replicate (length xs) (pos 7))
 
 unfoldable pub fresh : Record → List ℤ → Ran
-fresh r xs = ran (call r freshWaves xs)
+fresh r xs = ran (calling r freshWaves xs)

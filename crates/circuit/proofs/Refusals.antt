@@ -8,7 +8,7 @@ use lib.IntN.{ℤ, pos, negsuc, negℤ}
 use lib.Ieee.{Float, nan, inf, fin}
 use Rattle.circuit.specs.Numbers.{Report, report, done, fails}
 use Rattle.circuit.specs.SetUp.{setUpReport}
-use Rattle.circuit.specs.Run.{freshWaves, ran}
+use Rattle.circuit.specs.Run.{call, freshWaves, ran}
 use Rattle.circuit.specs.File.{block, readReport, writeReport, clearRow, unused, zeros}
 use Rattle.circuit.specs.declared.Join.the-variants.{Series, Parallel}
 use Rattle.circuit.specs.declared.Part.{Part}
@@ -18,7 +18,7 @@ use Rattle.circuit.specs.declared.CurveKind.{CurveKind}
 use Rattle.circuit.specs.declared.CurveKind.the-variants.{Unset, Single, Pair}
 use Rattle.circuit.specs.declared.Record.{Record}
 use Rattle.circuit.proofs.Working.{working}
-use Rattle.circuit.proofs.Circuits.{minus, ohms, input, resistor, capacitor, inductor, steady, joins, column, circuit, curveK, case1, case8, curved, call, fresh}
+use Rattle.circuit.proofs.Circuits.{minus, ohms, input, resistor, capacitor, inductor, steady, joins, column, circuit, curveK, case1, case8, curved, calling, fresh}
 
 -- ---- changed records
 
@@ -177,11 +177,11 @@ records-refused = refl
 runs : List Line
 runs =
     -- a wave at a resistor, a reactive row's past the limit and at it, a blank row's
-    gives (ran (call case1 (set freshWaves 1 (pos 1)) []) .handedBack) (report 12 1)
-    ∷ gives (ran (call case8 (set freshWaves 1 (minus 67108865)) []) .handedBack) (report 12 1)
-    ∷ gives (ran (call case8 (set freshWaves 1 (minus 67108864)) []) .handedBack) done
-    ∷ gives (ran (call case8 (set freshWaves 30 (pos 1)) []) .handedBack) (report 12 30)
-    ∷ gives (ran (record { circuit = case1; waves = freshWaves; input = pos 1 ∷ []; output = [] }) .handedBack) (report 13 0)
+    gives (ran (calling case1 (set freshWaves 1 (pos 1)) []) .handedBack) (report 12 1)
+    ∷ gives (ran (calling case8 (set freshWaves 1 (minus 67108865)) []) .handedBack) (report 12 1)
+    ∷ gives (ran (calling case8 (set freshWaves 1 (minus 67108864)) []) .handedBack) done
+    ∷ gives (ran (calling case8 (set freshWaves 30 (pos 1)) []) .handedBack) (report 12 30)
+    ∷ gives (ran (call case1 freshWaves (pos 1 ∷ []) []) .handedBack) (report 13 0)
     ∷ gives (fresh case1 (pos 16777216 ∷ []) .handedBack) done
     ∷ gives (fresh case1 (pos 1 ∷ pos 2 ∷ minus 16777217 ∷ []) .handedBack) (report 14 2)
     -- five sources that add up, and four that do not pass the limit

@@ -63,6 +63,9 @@ pub record Call : Type 0 where
   pub input : List ℤ
   pub output : List ℤ
 
+abbrev pub call : Record → List ℤ → List ℤ → List ℤ → Call
+call r waves input output = record { circuit = r; waves = waves; input = input; output = output }
+
 unfoldable pub storedWaves : Call → Verdict
 storedWaves c = lowest (λ j. not (soundWave (partAt (c .circuit) j) (getD (c .waves) j (pos 0)))) rowLimit
 

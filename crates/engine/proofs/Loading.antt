@@ -27,7 +27,7 @@ use Rattle.circuit.specs.declared.Part.the-variants.{Blank, Leaf, Adaptor}
 use Rattle.circuit.specs.declared.Prepared.{Prepared}
 use Rattle.circuit.specs.declared.Record.{Record}
 use Rattle.laws.specs.Accepted.{Accepted, Sized}
-use Rattle.laws.specs.Call.{call}
+use Rattle.circuit.specs.Run.{call}
 use Rattle.laws.proofs.Counting as Counting
 use Rattle.laws.proofs.Accepting.{accepting}
 use Rattle.laws.proofs.Running.{Allowed, zero-allowed}

@@ -12,7 +12,7 @@ use Rattle.circuit.specs.declared.Prepared.{Prepared}
 use Rattle.circuit.specs.declared.Progress.{Progress}
 use Rattle.circuit.specs.declared.Record.{Record}
 use Rattle.laws.specs.Accepted.{Sized}
-use Rattle.laws.specs.Call.{call}
+use Rattle.circuit.specs.Run.{call}
 use Rattle.engine.specs.declared.plan.Shape.{Shape}
 use Rattle.engine.specs.declared.play.Stop.{Stop}
 use Rattle.engine.specs.Sample.{Fixed, Loaded}

@@ -16,7 +16,7 @@ ghost use Rattle.circuit.specs.Numbers.{handed, unless, judge};
 ghost use Rattle.circuit.specs.Curve.{waveLimit};
 ghost use Rattle.circuit.specs.SetUp.{setUpReport};
 ghost use Rattle.circuit.specs.Run.{isReactive, soundWave, storedWaves, runRules};
-ghost use Rattle.laws.specs.Call.{call};
+ghost use Rattle.circuit.specs.Run.{call};
 ghost use Rattle.setup.specs.Answers.{numbered};
 
 pub fn is_reactive(e: Element) -> bool

@@ -15,7 +15,7 @@ use play::play;
 ghost use mathlib.Core.Path.{_≡_};
 ghost use Rattle.circuit.specs.Numbers.{handed};
 ghost use Rattle.circuit.specs.Run.{ran};
-ghost use Rattle.laws.specs.Call.{call};
+ghost use Rattle.circuit.specs.Run.{call};
 
 // Sets the record up anew and works the samples in order, in microvolts, up to the first that is refused. Any record, any stored waves and
 // slices of any lengths: what is refused before the first sample leaves the output and the waves as they were.

@@ -4,7 +4,7 @@ use mathlib.Core.Bool.{Bool, false, not}
 use lib.Dec.{eqb}
 use Rattle.circuit.specs.Counting.{between}
 use Rattle.circuit.specs.Numbers.{Verdict}
-use Rattle.circuit.specs.Record.{rowLimit, columnLimit, partAt, notLower, uses, soundPart}
+use Rattle.circuit.specs.Record.{partAt, notLower, uses, soundPart}
 use Rattle.circuit.specs.Curve.{soundColumn}
 use Rattle.circuit.specs.SetUp.{inRange, portResistances, ratios}
 use Rattle.circuit.specs.declared.Part.{Part}
@@ -29,13 +29,6 @@ placesOf Lower r = r .count
 placesOf Once r = r .count - 1
 placesOf Value r = r .count
 placesOf Column r = r .width
-
--- how many there can be
-abbrev pub room : Fault → ℕ
-room Lower = rowLimit
-room Once = rowLimit
-room Value = rowLimit
-room Column = columnLimit
 
 abbrev pub faultAt : Fault → Record → ℕ → Bool
 faultAt Lower r j = notLower j (partAt r j)

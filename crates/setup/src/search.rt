@@ -3,8 +3,9 @@
 ghost use mathlib.Core.Path.{_≡_};
 ghost use Prim.Native.Nat.{_<_};
 ghost use Rattle.circuit.specs.Numbers.{handed, lowest, report};
+ghost use Rattle.circuit.specs.Record.{columnLimit};
 ghost use Rattle.setup.specs.Answers.{numbered, Counted};
-ghost use Rattle.setup.specs.Faults.{numberOf, placesOf, room, faultAt};
+ghost use Rattle.setup.specs.Faults.{numberOf, placesOf, faultAt};
 use crate::columns;
 use crate::tree;
 use crate::value;
@@ -20,21 +21,13 @@ pub(crate) enum Fault {
 }
 
 fn at_fault(f: Fault, r: Record, i: u8) -> bool
-    requires { ⌜ Counted r × (i < room f) ⌝ }
+    requires { ⌜ Counted r × (i < columnLimit) ⌝ }
     ensures { λ b. ⌜ b ≡ faultAt f r i ⌝ }
 {
     match f {
-        Fault::Lower => {
-            let row = r.rows[i as usize];
-            let part = row.part;
-            tree::not_lower(i, part)
-        }
+        Fault::Lower => tree::not_lower(i, tree::part_at(r, i as usize)),
         Fault::Once => tree::uses(r, i) != 1,
-        Fault::Value => {
-            let row = r.rows[i as usize];
-            let part = row.part;
-            !value::sound_part(part)
-        }
+        Fault::Value => !value::sound_part(tree::part_at(r, i as usize)),
         Fault::Column => !columns::sound_column(r, i as usize),
     }
 }

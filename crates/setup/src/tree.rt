@@ -14,6 +14,18 @@ use circuit::ROWS;
 use circuit::Record;
 use circuit::TOP;
 
+// A row's part; past the last row there are blank ones.
+pub(crate) fn part_at(r: Record, j: usize) -> Part
+    ensures { λ p. ⌜ p ≡ partAt r j ⌝ }
+{
+    if j < ROWS {
+        let row = r.rows[j];
+        row.part
+    } else {
+        Part::Blank
+    }
+}
+
 // An adaptor whose children are not both lower.
 pub(crate) fn not_lower(j: u8, p: Part) -> bool
     ensures { λ b. ⌜ b ≡ notLower j p ⌝ }
@@ -102,25 +114,12 @@ fn is_leaf(p: Part) -> bool
     }
 }
 
-// No row past the last is a leaf.
-fn leaf_at(r: Record, j: usize) -> bool
-    ensures { λ b. ⌜ b ≡ isLeaf (partAt r j) ⌝ }
-{
-    if j < ROWS {
-        let row = r.rows[j];
-        let part = row.part;
-        is_leaf(part)
-    } else {
-        false
-    }
-}
-
 pub(crate) fn input_and_tap(r: Record) -> Answer
     requires { ⌜ r .count ≤ rowLimit ⌝ }
     ensures { λ a. ⌜ handed a ≡ numbered 6 (inputAndTap r) ⌝ }
 {
     let tap = r.tap;
-    if (inputs(r) == 1) & ((tap == TOP) | leaf_at(r, tap as usize)) {
+    if (inputs(r) == 1) & ((tap == TOP) | is_leaf(part_at(r, tap as usize))) {
         Answer::Done
     } else {
         Answer::Tree(TOP)

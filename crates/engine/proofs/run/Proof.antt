@@ -11,7 +11,7 @@ use Rattle.circuit.specs.Numbers.{handed, done, judge}
 use Rattle.circuit.specs.SetUp.{setUpReport, setUpRows, preparedRows}
 use Rattle.circuit.specs.Run.{Call, Ran, runRules, ran, turnedAway}
 use Rattle.circuit.specs.declared.Record.{Record}
-use Rattle.laws.specs.Call.{call}
+use Rattle.circuit.specs.Run.{call}
 use Rattle.laws.proofs.Running.{Allowed, zero-allowed, ran-refused}
 use Rattle.laws.proofs.Sizes.{sized}
 use Rattle.engine.proofs.Holding.{state-sized}

@@ -12,7 +12,7 @@ use borrow.Author.Needs.{needs}
 use Rattle.circuit.specs.Record.{inputs, isInput}
 use Rattle.circuit.specs.Run.{ran}
 use Rattle.laws.specs.Accepted.{Accepted}
-use Rattle.laws.specs.Call.{call}
+use Rattle.circuit.specs.Run.{call}
 use Rattle.engine.specs.Play.{report}
 use Rattle.engine.specs.declared.plan.Shape.{Shape}
 use Rattle.engine.specs.Curve.{across, back, acrossOf, backOf}

@@ -13,7 +13,7 @@ use borrow.Author.Needs.{needs}
 use Rattle.circuit.specs.Numbers.{handed}
 use Rattle.circuit.specs.Sample.{sampled, refused, finished}
 use Rattle.circuit.specs.declared.Record.{Record}
-use Rattle.laws.specs.Call.{call}
+use Rattle.circuit.specs.Run.{call}
 use Rattle.laws.proofs.Running.{Midway, midway-start, midway-step, midway-refused, midway-done}
 use Rattle.engine.specs.declared.plan.Shape.{Shape}
 use Rattle.engine.specs.declared.sample.Outcome.{Outcome}

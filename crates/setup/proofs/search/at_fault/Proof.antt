@@ -1,23 +1,24 @@
--- `setup::search::at_fault` meets its contract: an arm for each fault, and the place is one that the fault has room for.
-use Prim.Native.Nat.{ℕ, _<_}
+-- `setup::search::at_fault` meets its contract: an arm for each fault.
+use Prim.Native.Nat.{ℕ}
 use mathlib.Core.Path.{_≡_, sym, ap, _∙_}
 use mathlib.Core.Bool.{not}
 use lib.Dec.{eqb}
 use borrow.Author.Needs.{needs}
-use Rattle.setup.specs.Faults.{room, faultAt}
+use Rattle.circuit.specs.Record.{notLower, soundPart}
+use Rattle.setup.specs.Faults.{faultAt}
 use Rattle.setup.specs.declared.search.Fault.{Fault}
 use Rattle.setup.proofs.search.at_fault.Statement.{statement}
 use Rattle.setup.proofs.search.at_fault.Tie as tie
 
 -- a test of this fault's is the definition's
-is-fault : (c : tie.Start) {f : Fault} → c .args .f ≡ f → faultAt f (c .args .t2) (c .args .i) ≡ faultAt (c .args .f) (c .args .t2) (c .args .i)
-is-fault c e = ap (λ (g : Fault). faultAt g (c .args .t2) (c .args .i)) (sym e)
-
-inside : (c : tie.Start) {f : Fault} → c .args .f ≡ f → c .args .i < room f
-inside c e = rw e at (c .pre .1)
+is-fault : (c : tie.Start) {f : Fault} → c .args .f ≡ f → faultAt f (c .args .r) (c .args .i) ≡ faultAt (c .args .f) (c .args .r) (c .args .i)
+is-fault c e = ap (λ (g : Fault). faultAt g (c .args .r) (c .args .i)) (sym e)
 
 returns : tie.Need-returns
-returns c = let met = c .before .before in c .not-lower .ensures ∙ is-fault (met .before .before) (met .enum-told .given .1)
+returns c =
+    let met = c .before .before in
+    let start = met .before .before in
+    c .not-lower .ensures ∙ ap (notLower (start .args .i)) (c .before .part-at .ensures) ∙ is-fault start (met .enum-told .given .1)
 
 returns-2 : tie.Need-returns-2
 returns-2 c =
@@ -25,7 +26,9 @@ returns-2 c =
     ap (λ (n : ℕ). not (eqb n 1)) (c .uses .ensures) ∙ is-fault (met .before .before) (met .enum-told2 .given .1)
 
 returns-3 : tie.Need-returns-3
-returns-3 c = let met = c .before .before in ap not (c .sound-part .ensures) ∙ is-fault (met .before .before) (met .enum-told3 .given .1)
+returns-3 c =
+    let met = c .before .before in
+    ap not (c .sound-part .ensures ∙ ap soundPart (c .before .part-at2 .ensures)) ∙ is-fault (met .before .before) (met .enum-told3 .given .1)
 
 returns-4 : tie.Need-returns-4
 returns-4 c = let met = c .before in ap not (c .sound-column .ensures) ∙ is-fault (met .before .before) (met .enum-told4 .given .1)
@@ -33,6 +36,5 @@ returns-4 c = let met = c .before in ap not (c .sound-column .ensures) ∙ is-fa
 pub at-fault-spec : {M : Type 1} → statement M
 at-fault-spec =
     tie.close
-    (tie.spec (λ c. search needs) (λ c. search needs) (λ c. inside (c .before .before) (c .enum-told .given .1)) (λ c κs. search needs)
-    (λ c. search needs) (λ c κs. search needs) (λ c. search needs) (λ c. search needs) (λ c. inside (c .before .before) (c .enum-told3 .given .1))
-    (λ c κs. search needs) (λ c. search needs) (λ c κs. inside (c .before .before) (c .enum-told4 .given .1)) returns returns-2 returns-3 returns-4)
+    (tie.spec (λ c. search needs) (λ c κs. search needs) (λ c κs. search needs) (λ c. search needs) (λ c κs. search needs) (λ c. search needs)
+    (λ c κs. search needs) (λ c κs. search needs) (λ c. search needs) (λ c κs. search needs) returns returns-2 returns-3 returns-4)

@@ -4,10 +4,11 @@ use native.Mathlib.Omega.{arith}
 use mathlib.Core.Path.{_≡_, refl, sym, _∙_}
 use borrow.Author.Needs.{needs}
 use Rattle.circuit.specs.Numbers.{handed, passes, lowest}
+use Rattle.circuit.specs.Record.{columnLimit}
 use Rattle.circuit.specs.declared.Record.{Record}
 use Rattle.laws.proofs.Counting.{lowest-step}
 use Rattle.setup.specs.Answers.{Counted}
-use Rattle.setup.specs.Faults.{numberOf, placesOf, room, faultAt}
+use Rattle.setup.specs.Faults.{numberOf, placesOf, faultAt}
 use Rattle.setup.specs.declared.search.Fault.{Fault}
 use Rattle.setup.specs.declared.search.Fault.the-variants.{Lower, Once, Value, Column}
 use Rattle.setup.proofs.Chain.{stops, goes-through}
@@ -20,8 +21,8 @@ Inv-loop f r n i₀ i = (i ≤ n) × (lowest (faultAt f r) i ≡ passes)
 abbrev μ-loop : tie.MeasureT-loop
 μ-loop f r n i₀ i = n - i
 
--- every place has room
-inside : (f : Fault) (r : Record) → Counted r → placesOf f r ≤ room f
+-- rows and columns alike
+inside : (f : Fault) (r : Record) → Counted r → placesOf f r ≤ columnLimit
 inside Lower r h = omega arith
 inside Once r h = omega arith
 inside Value r h = omega arith

@@ -1,0 +1,54 @@
+// What the bench writes: words, numbers with their unit, and an answer as a reader says it.
+use circuit::Answer;
+use libc::STDOUT_FILENO;
+
+pub fn text(t: &[u8]) {
+    io::write_all(STDOUT_FILENO, t);
+}
+
+pub fn number(n: u64) {
+    io::print_decimal(STDOUT_FILENO, n);
+}
+
+pub fn signed(n: i32) {
+    if n < 0 {
+        text(b"-");
+        number((!n) as u64 + 1);
+    } else {
+        number(n as u64);
+    }
+}
+
+// A wave.
+pub fn microvolts(n: i32) {
+    signed(n);
+    text(b" microvolts");
+}
+
+// An output: twice a voltage is the sum of two waves, so its unit is half a wave's.
+pub fn half_microvolts(n: i32) {
+    signed(n);
+    text(b" half microvolts");
+}
+
+// Whole ohms; a resistance that is negative or no number has none.
+pub fn ohms(x: f64) {
+    if x > -1.0 {
+        if x < 18446744073709551616.0 {
+            number(std::num::truncating_f64_to_u64(x));
+            text(b" ohms");
+        }
+    }
+}
+
+pub fn outcome(a: Answer) {
+    let n = answer::number(a);
+    if n == 0 {
+        text(b"done");
+    } else {
+        text(b"refused ");
+        number(n);
+        text(b" at ");
+        number(answer::place(a));
+    }
+}
