@@ -1,37 +1,31 @@
 -- The sweep down leaves at each adaptor's children what it sends them from its own row, since a child has no other adaptor above it and stands
 -- in a lower row. So each leaf's row holds the wave that the tree's own recursion brings there.
 use Prim.Native.Nat.{ℕ, zero, suc, _+_, _-_, _*_, _<_, _≤_}
-use native.Mathlib.Nat.{lt-irrefl, not-suc-le-zero}
 use native.Mathlib.Decide.{ℕ-discrete}
 use native.Mathlib.Omega.{arith}
 use mathlib.Core.Path.{_≡_, refl, sym, ap, _∙_, subst}
-use mathlib.Core.Bool.{Bool, true, false, cond, _||_}
+use mathlib.Core.Bool.{true}
 use mathlib.Core.Logic.{_⊎_, inl, inr, ⊎-elim}
 use mathlib.Core.List.{List}
-use lib.Dec.{T, eqb→eq}
 use lib.ListN.{getD, length, set, length-set}
 use lib.Seq.{getD-set-same, getD-set-other, lt-length-set}
-use lib.IntN.{ℤ, pos, natAbs}
+use lib.IntN.{ℤ, pos}
 use Rattle.whole.specs.Order.{Abs, abs-as}
-use Rattle.circuit.specs.Record.{partAt, isLeaf, Tree, leaf, adaptor, treeAt}
+use Rattle.circuit.specs.Record.{partAt}
 use Rattle.circuit.specs.SetUp.{ratioAt}
-use Rattle.circuit.specs.Sample.{rounded, sendsUp, sendsFirst, sendsSecond, up, reach, holds}
-use Rattle.circuit.specs.File.{noRecord}
-use Rattle.circuit.specs.declared.Element.{Element}
+use Rattle.circuit.specs.Sample.{sendsUp, sendsFirst, sendsSecond, up}
 use Rattle.circuit.specs.declared.Adaptor.{Adaptor as Joint}
 use Rattle.circuit.specs.declared.Part.{Part}
 use Rattle.circuit.specs.declared.Part.the-variants.{Blank, Leaf, Adaptor}
 use Rattle.circuit.specs.declared.Record.{Record}
-use Rattle.laws.specs.Accepted.{Child, Apart, Accepted}
-use Rattle.laws.proofs.Trees as Trees
+use Rattle.laws.specs.Accepted.{Child, Apart}
 use Rattle.laws.proofs.Shape.{child-lower}
 use Rattle.engine.specs.Wave.{counting}
-use Rattle.engine.specs.Plan.{isAdaptor, linkFor, Says, Lists}
+use Rattle.engine.specs.Plan.{isAdaptor}
 use Rattle.engine.specs.Sweep.{waveAt, linkAt, lowered, Lowers, dropped, Drops}
 use Rattle.engine.proofs.Range.{first-range, second-range}
 use Rattle.engine.proofs.Ranks.{rank-rises, rank-order}
-use Rattle.engine.proofs.Stages.{any-first, any-second, leaf-or-adaptor, children-lower, adaptorRank, Stage, stage-at, same-place}
-use Rattle.engine.proofs.Climb.{rises, rises-adaptor}
+use Rattle.engine.proofs.Stages.{children-lower, adaptorRank, Lined, Stage, stage-at, same-place}
 
 -- ---- two stores
 
@@ -68,8 +62,7 @@ apart-of : (a : Joint) → Apart (Adaptor a) → a .first ≡ a .second → ⊥
 unfolding Apart
 apart-of a h = h
 
-module _ (r : Record) (acc : Accepted r) (words rows : List ℕ) (n : ℕ) (says : (j : ℕ) → j < 31 → Says (partAt r j) (ratioAt r j) (getD words j 0))
-    (lists : Lists (λ j. isAdaptor (partAt r j)) (r .count) rows n) (ups : List ℤ) where
+module _ {r : Record} {words rows : List ℕ} {n : ℕ} (lined : Lined r words rows n) (ups : List ℤ) where
   -- the children of adaptor a at row p hold what it sends them
   pub record Sends (p : ℕ) (a : Joint) (ds : List ℤ) : Type 0 where
     pub first : waveAt ds (a .first) ≡ sendsFirst counting (a .join) (ratioAt r p) (waveAt ups (a .first)) (waveAt ups (a .second)) (waveAt ds p)
@@ -95,10 +88,10 @@ module _ (r : Record) (acc : Accepted r) (words rows : List ℕ) (n : ℕ) (says
     after = set (set ds (a .first) b1) (a .second) b2
 
     lower : (a .first < s .row) × (a .second < s .row)
-    lower = children-lower r acc (s .row) (s .joint) (s .part)
+    lower = children-lower r (lined .accepted) (s .row) (s .joint) (s .part)
 
     room : s .row < length ds
-    room = let short = acc .short in let inside = s .inside in omega (arith, falling .long)
+    room = let short = lined .accepted .short in let inside = s .inside in omega (arith, falling .long)
 
     -- a row that is not below this adaptor keeps its wave
     kept : (j : ℕ) → (Child (Adaptor a) j → ⊥) → waveAt after j ≡ waveAt ds j
@@ -112,7 +105,7 @@ module _ (r : Record) (acc : Accepted r) (words rows : List ℕ) (n : ℕ) (says
     here : Sends (s .row) a after
     unfolding after b1 b2
     here = record {
-      first = at-first ds (a .first) (a .second) b1 b2 (apart-of a (subst Apart (s .part) (acc .apart (s .row)))) (omega (arith, lower, room))
+      first = at-first ds (a .first) (a .second) b1 b2 (apart-of a (subst Apart (s .part) (lined .accepted .apart (s .row)))) (omega (arith, lower, room))
           ∙ ap (sendsFirst counting (a .join) (ratioAt r (s .row)) (waveAt ups (a .first)) (waveAt ups (a .second))) (sym (higher (s .row) (omega arith)));
       second = at-second ds (a .first) (a .second) b1 b2 (omega (arith, lower, room))
           ∙ ap (sendsSecond counting (a .join) (ratioAt r (s .row)) (waveAt ups (a .first)) (waveAt ups (a .second))) (sym (higher (s .row) (omega arith)));
@@ -125,7 +118,7 @@ module _ (r : Record) (acc : Accepted r) (words rows : List ℕ) (n : ℕ) (says
       -- its children have no other adaptor above them
       kept-child : (c : ℕ) → Child (Adaptor b) c → waveAt after c ≡ waveAt ds c
       kept-child c child = kept c (λ o.
-          let same : p ≡ s .row = acc .once p (s .row) c (subst (λ (x : Part). Child x c) (sym e) child) (subst (λ (x : Part). Child x c) (sym (s .part)) o) in
+          let same : p ≡ s .row = lined .accepted .once p (s .row) c (subst (λ (x : Part). Child x c) (sym e) child) (subst (λ (x : Part). Child x c) (sym (s .part)) o) in
           omega (arith, above-here))
 
       others : Sends p b after
@@ -143,7 +136,7 @@ module _ (r : Record) (acc : Accepted r) (words rows : List ℕ) (n : ℕ) (says
       where
         by : Dec (adaptorRank r p ≡ k) → Sends p b after
         by (yes q) =
-            let same : p ≡ s .row = same-place r acc words rows n says lists k s p l (ap isAdaptor e) q in
+            let same : p ≡ s .row = same-place lined k s p l (ap isAdaptor e) q in
             let parts : Adaptor b ≡ Adaptor (s .joint) = sym e ∙ ap (partAt r) same ∙ s .part in
             let joint : b ≡ s .joint = cc in
             rw (same, joint) here
@@ -169,9 +162,9 @@ module _ (r : Record) (acc : Accepted r) (words rows : List ℕ) (n : ℕ) (says
           → (c : ℕ) → Child (Adaptor a) c → Abs (waveAt ds c) (limit c)
       below p a l e h size c child =
           let sends = falling .sends p a l e h in
-          let lower = children-lower r acc p a e in
-          let short = acc .short in
-          let less : ratioAt r p < 16777216 = omega (arith, acc .ratio p) in
+          let lower = children-lower r (lined .accepted) p a e in
+          let short = lined .accepted .short in
+          let less : ratioAt r p < 16777216 = omega (arith, lined .accepted .ratio p) in
           let r1 = risen (a .first) (omega arith) in
           let r2 = risen (a .second) (omega arith) in
           ⊎-elim
@@ -189,10 +182,10 @@ module _ (r : Record) (acc : Accepted r) (words rows : List ℕ) (n : ℕ) (says
               → Abs (waveAt ds j) (limit j)
           by (yes q) higher = abs-as small (sym (ap (waveAt ds) q ∙ falling .above)) (omega arith)
           by (no q) higher =
-              let u = acc .used j (omega arith) in
+              let u = lined .accepted .used j (omega arith) in
               let inside : u .0 < r .count = u .1 .inside in
               let parent = parent-of (partAt r (u .0)) j (u .1 .child) in
-              let up : j < u .0 = child-lower (u .0) (partAt r (u .0)) j (acc .lower (u .0)) (u .1 .child) in
+              let up : j < u .0 = child-lower (u .0) (partAt r (u .0)) j (lined .accepted .lower (u .0)) (u .1 .child) in
               let rank : adaptorRank r j < adaptorRank r (u .0) = rank-rises (λ i. isAdaptor (partAt r i)) j (u .0) up e in
               below (u .0) (parent .0) inside (parent .1) (omega arith)
               (higher (u .0) (ap isAdaptor (parent .1)) (omega arith) inside (omega arith)) j (parent .2)
@@ -201,9 +194,9 @@ module _ (r : Record) (acc : Accepted r) (words rows : List ℕ) (n : ℕ) (says
         → waveAt ups p ≡ sendsUp counting (a .join) (ratioAt r p) (waveAt ups (a .first)) (waveAt ups (a .second))) where
       fits : (k : ℕ) (s : Stage r words rows k) (ds : List ℤ) → Falling top (suc k) ds → Lowers (linkAt words (getD rows k 0)) (getD rows k 0) ups ds
       fits k s ds falling =
-          let short = acc .short in
+          let short = lined .accepted .short in
           let inside = s .inside in
-          let lower = children-lower r acc (s .row) (s .joint) (s .part) in
+          let lower = children-lower r (lined .accepted) (s .row) (s .joint) (s .part) in
           let r1 = risen (s .joint .first) (omega arith) in
           let r2 = risen (s .joint .second) (omega arith) in
           let place = s .place in
@@ -214,7 +207,7 @@ module _ (r : Record) (acc : Accepted r) (words rows : List ℕ) (n : ℕ) (says
             first = omega arith;
             second = omega arith;
             waves = record {
-              below = record { ratio = omega (arith, acc .ratio (s .row)); first = omega (arith, r1); second = omega (arith, r2) };
+              below = record { ratio = omega (arith, lined .accepted .ratio (s .row)); first = omega (arith, r1); second = omega (arith, r2) };
               sent = sent (s .row) (s .joint) (s .inside) (s .part);
               above = omega (arith, r3);
             };
@@ -226,10 +219,10 @@ module _ (r : Record) (acc : Accepted r) (words rows : List ℕ) (n : ℕ) (says
       unfolding Drops
       drops zero l ds falling = tt
       drops (suc k) l ds falling =
-          let s = stage-at r acc words rows n says lists k l in
+          let s = stage-at lined k l in
           (fits k s ds falling, drops k (omega arith) _ (next top k s ds falling))
 
       pub fallen : (k : ℕ) → k ≤ n → (ds : List ℤ) → Falling top k ds → Falling top 0 (dropped words rows ups k ds)
       unfolding dropped
       fallen zero l ds falling = falling
-      fallen (suc k) l ds falling = fallen k (omega arith) _ (next top k (stage-at r acc words rows n says lists k l) ds falling)
+      fallen (suc k) l ds falling = fallen k (omega arith) _ (next top k (stage-at lined k l) ds falling)

@@ -1,10 +1,9 @@
 -- A list that a loop fills from the front: what holds of each entry passed still holds after one store more.
-use Prim.Native.Nat.{ℕ, zero, suc, _+_, _<_}
+use Prim.Native.Nat.{ℕ, _+_, _<_}
 use native.Mathlib.Nat.{lt-irrefl}
-use native.Mathlib.Omega.{arith}
-use mathlib.Core.Path.{_≡_, refl, subst}
+use mathlib.Core.Path.{subst}
 use mathlib.Core.List.{List}
-use lib.ListN.{getD, length, set, replicate}
+use lib.ListN.{getD, length, set}
 use lib.Seq.{getD-set-same, getD-set-other}
 use borrow.Author.Count.{below-more}
 
@@ -15,8 +14,3 @@ module _ {A : Type 0} (P : ℕ → A → Type 0) (d : A) where
       below-more (λ j. P j (getD (set l i v) j d)) i
       (λ j h. rw (getD-set-other l i j v d (λ e. lt-irrefl i (subst (λ (n : ℕ). n < i) e h))) (old j h))
       (rw (getD-set-same l i v d inside) new)
-
-pub getD-zeros : {A : Type 0} (n j : ℕ) (d : A) → getD (replicate n d) j d ≡ d
-getD-zeros zero j d = refl
-getD-zeros (suc n) zero d = refl
-getD-zeros (suc n) (suc j) d = getD-zeros n j d

@@ -1,24 +1,24 @@
 -- The end of a sample that keeps its limits: what the tap reads is the output, and the reactive rows hold what the definition stores, loaded
 -- for the next sample.
-use Prim.Native.Nat.{ℕ, zero, suc, _+_, _-_, _<_, _≤_}
-use native.Mathlib.Decide.{ℕ-discrete, decLt}
+use Prim.Native.Nat.{ℕ, zero, suc, _-_, _<_, _≤_}
+use native.Mathlib.Decide.{ℕ-discrete}
 use native.Mathlib.Omega.{arith}
 use mathlib.Core.Path.{_≡_, refl, sym, ap, ap₂, _∙_, subst}
-use mathlib.Core.Bool.{Bool, true, false, true≢false, not, cond, _||_}
-use mathlib.Core.Logic.{_⊎_, inl, inr, ⊎-elim}
+use mathlib.Core.Bool.{Bool, true, false, true≢false}
+use mathlib.Core.Logic.{⊎-elim}
 use mathlib.Core.List.{List}
-use lib.Dec.{T, eqb}
+use lib.Dec.{T}
 use lib.ListN.{getD, length, set, length-set}
 use lib.Seq.{getD-set-same, getD-set-other}
-use lib.IntN.{ℤ, pos, natAbs, _+ℤ_, negℤ}
-use borrow.Author.Tests.{eq-eqb, ne-eqb, eqb-true}
-use Rattle.whole.specs.Order.{Abs, abs-as, natAbs-neg}
+use lib.IntN.{ℤ, pos, _+ℤ_}
+use borrow.Author.Tests.{eq-eqb, ne-eqb}
+use Rattle.whole.specs.Order.{Abs}
 use Rattle.circuit.specs.Counting.{within, table}
 use Rattle.circuit.specs.Record.{partAt, isLeaf, isInput, top, rowLimit}
 use Rattle.circuit.specs.SetUp.{ratioAt}
 use Rattle.circuit.specs.Curve.{waveLimit, reflected}
 use Rattle.circuit.specs.Sample.{rounded, sends, stores, partStores, partSends, sent, risen, arriving, kept, output, sampled, finished}
-use Rattle.circuit.specs.Run.{soundWave, isReactive}
+use Rattle.circuit.specs.Run.{isReactive}
 use Rattle.circuit.specs.declared.Element.{Element}
 use Rattle.circuit.specs.declared.Element.the-variants.{Resistor, Capacitor, Inductor, Input, Steady}
 use Rattle.circuit.specs.declared.Part.{Part}

@@ -1,9 +1,9 @@
 -- A test of both signs is a test of the magnitude, and a sum of two waves in their limit fits 32 bits.
-use Prim.Native.Nat.{ℕ, zero, suc, _<_, _≤_}
+use Prim.Native.Nat.{ℕ, suc, _<_}
 use native.Mathlib.Decide.{decLt}
 use native.Mathlib.Omega.{arith}
-use mathlib.Core.Path.{_≡_, refl}
-use mathlib.Core.Bool.{Bool, true, false, not, _||_}
+use mathlib.Core.Path.{_≡_}
+use mathlib.Core.Bool.{true, false, not, _||_}
 use lib.Dec.{leb, ltb}
 use lib.IntN.{ℤ, pos, negsuc, natAbs, _+ℤ_, _-ℤ_}
 use lib.Signed.{ltZ}
@@ -11,7 +11,7 @@ use mir.Syntax.{w32, w64}
 use mir.Val.{SFits}
 use borrow.Author.Tests.{lt-ltb, le-ltb, le-leb, lt-leb, leb-true}
 use Rattle.whole.specs.Integers.{at, _⊞_, _⊟_}
-use Rattle.whole.specs.Order.{zarith, Abs}
+use Rattle.whole.specs.Order.{Abs}
 use Rattle.whole.specs.Signed.{zfits}
 use Rattle.circuit.specs.Counting.{within}
 use Rattle.circuit.specs.Curve.{waveLimit}

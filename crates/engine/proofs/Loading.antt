@@ -1,38 +1,32 @@
 -- The ends of a run: what is laid out and loaded before its first sample, and the stored waves that are taken out after its last.
-use Prim.Native.Nat.{ℕ, suc, _+_, _-_, _<_, _≤_}
-use native.Mathlib.Decide.{decLt}
+use Prim.Native.Nat.{ℕ, _<_}
 use native.Mathlib.Omega.{arith}
-use mathlib.Core.Path.{_≡_, refl, sym, ap, _∙_, subst}
-use mathlib.Core.Bool.{Bool, true, false, true≢false, not, cond}
+use mathlib.Core.Path.{_≡_, refl, sym, ap, _∙_}
+use mathlib.Core.Bool.{true, false}
 use mathlib.Core.List.{List}
 use lib.Dec.{eqb}
-use lib.ListN.{getD, length}
+use lib.ListN.{length}
 use lib.Seq.{ext-getD}
 use lib.IntN.{ℤ, pos, natAbs}
-use lib.Ieee.{nan}
 use borrow.Author.Tests.{eqb-true, not-false}
 use Rattle.whole.specs.Order.{zarith, Abs, abs-parts}
-use Rattle.circuit.specs.Counting.{within, table}
-use Rattle.circuit.specs.Numbers.{judge}
 use Rattle.circuit.specs.Record.{partAt, isLeaf, isInput}
 use Rattle.circuit.specs.Curve.{waveLimit}
 use Rattle.circuit.specs.SetUp.{preparedPart, preparedRows, ratioAt}
 use Rattle.circuit.specs.Sample.{rounded, sends, partSends, sent}
-use Rattle.circuit.specs.Run.{soundWave, isReactive, storedWaves, runRules}
-use Rattle.circuit.specs.File.{noRecord}
+use Rattle.circuit.specs.Run.{soundWave, storedWaves, call}
 use Rattle.circuit.specs.declared.Element.{Element}
 use Rattle.circuit.specs.declared.Element.the-variants.{Resistor, Capacitor, Inductor, Input, Steady}
 use Rattle.circuit.specs.declared.Part.{Part}
 use Rattle.circuit.specs.declared.Part.the-variants.{Blank, Leaf, Adaptor}
 use Rattle.circuit.specs.declared.Prepared.{Prepared}
 use Rattle.circuit.specs.declared.Record.{Record}
-use Rattle.laws.specs.Accepted.{Accepted, Sized}
-use Rattle.circuit.specs.Run.{call}
+use Rattle.laws.specs.Accepted.{Accepted}
 use Rattle.laws.proofs.Counting as Counting
 use Rattle.laws.proofs.Accepting.{accepting}
 use Rattle.laws.proofs.Running.{Allowed, zero-allowed}
 use Rattle.engine.specs.Wave.{counting}
-use Rattle.engine.specs.Plan.{Says, takenOut, partTaken, ratioIn}
+use Rattle.engine.specs.Plan.{Says, partTaken, ratioIn}
 use Rattle.engine.specs.Sweep.{waveAt}
 use Rattle.engine.specs.Sample.{Loaded}
 use Rattle.engine.specs.Play.{Playable}

@@ -2,7 +2,7 @@
 -- W − g, and no wave stands twice in a sum: so none is larger than those waves together, and no step leaves 64 bits.
 use mathlib.Core.Path.{_≡_, refl, sym, subst}
 use mathlib.Core.List.{List, [], _∷_}
-use Prim.Native.Nat.{ℕ, zero, suc, _+_, _-_, _*_, _<_, _≤_}
+use Prim.Native.Nat.{ℕ, zero, suc, _+_, _-_, _<_}
 use native.Mathlib.Omega.{arith}
 use lib.IntN.{ℤ, pos, _+ℤ_, _-ℤ_, _*ℤ_, negℤ, natAbs, +ℤ-idl}
 use lib.Signed.{shrZ}
@@ -12,7 +12,7 @@ use Rattle.whole.specs.Integers.{at, is-neg, _⊞_, _⊟_}
 use Rattle.whole.specs.Order.{zarith, Abs, abs-add, abs-neg, abs-mul, abs-as}
 use Rattle.whole.specs.Quotients.{Rounds, rounds-neg, rounds-add, rounds-bound, floor-rounds}
 use Rattle.whole.specs.Signed.{zfits}
-use Rattle.whole.specs.Ring.{Exp, var, _⊕_, _⊗_, _⊝_, ⊖, ring}
+use Rattle.whole.specs.Ring.{var, _⊕_, _⊗_, _⊝_, ⊖, ring}
 use Rattle.circuit.specs.Sample.{h, sendsUp, sendsFirst, sendsSecond}
 use Rattle.circuit.specs.declared.Join.{Join}
 use Rattle.circuit.specs.declared.Join.the-variants.{Series, Parallel}

@@ -1,7 +1,7 @@
 -- Rows that a test chooses, listed in rising order. A row's rank is how many chosen rows stand before it: it rises from one chosen row to
 -- the next, takes every value below the list's length, and so is the row's place in the list.
 use Prim.Native.Nat.{ℕ, zero, suc, _+_, _≤_, _<_}
-use native.Mathlib.Nat.{lt-irrefl, le-step, le-refl}
+use native.Mathlib.Nat.{le-step, le-refl}
 use native.Mathlib.Decide.{decLt}
 use native.Mathlib.Omega.{arith}
 use mathlib.Core.Path.{_≡_, refl, sym, ap, _∙_, subst}

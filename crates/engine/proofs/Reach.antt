@@ -1,13 +1,13 @@
 -- From a sweep's local facts to the tree's recursion: where each adaptor's children hold what it sends them, a leaf's row holds the wave that
 -- reaches it. The induction goes down the rows.
-use Prim.Native.Nat.{ℕ, zero, suc, _-_, _<_, _≤_}
+use Prim.Native.Nat.{ℕ, zero, suc, _-_, _<_}
 use native.Mathlib.Omega.{arith}
-use mathlib.Core.Path.{_≡_, refl, sym, ap, _∙_, subst}
+use mathlib.Core.Path.{_≡_, sym, ap, _∙_, subst}
 use mathlib.Core.Bool.{Bool, true, false, cond, _||_}
-use mathlib.Core.Logic.{_⊎_, ⊎-elim}
+use mathlib.Core.Logic.{⊎-elim}
 use mathlib.Core.List.{List}
 use lib.Dec.{T, eqb→eq}
-use lib.ListN.{getD, length, set, length-set}
+use lib.ListN.{length, set, length-set}
 use lib.Seq.{getD-set-same}
 use lib.IntN.{ℤ, pos}
 use Rattle.circuit.specs.Record.{partAt, Tree, leaf, adaptor, treeAt}
@@ -16,18 +16,15 @@ use Rattle.circuit.specs.Sample.{rounded, sendsFirst, sendsSecond, reach, holds
 use Rattle.circuit.specs.File.{noRecord}
 use Rattle.circuit.specs.declared.Join.{Join}
 use Rattle.circuit.specs.declared.Adaptor.{Adaptor as Joint}
-use Rattle.circuit.specs.declared.Part.{Part}
-use Rattle.circuit.specs.declared.Part.the-variants.{Leaf, Adaptor}
+use Rattle.circuit.specs.declared.Part.the-variants.{Adaptor}
 use Rattle.circuit.specs.declared.Record.{Record}
-use Rattle.laws.specs.Accepted.{Accepted}
 use Rattle.laws.proofs.Trees as Trees
-use Rattle.engine.specs.Wave.{counting}
-use Rattle.engine.specs.Plan.{isAdaptor, Says, Lists}
+use Rattle.engine.specs.Plan.{isAdaptor}
 use Rattle.engine.specs.Sweep.{waveAt}
 use Rattle.engine.proofs.Ranks.{rank-rises}
-use Rattle.engine.proofs.Stages.{any-first, any-second, leaf-or-adaptor, children-lower, adaptorRank}
+use Rattle.engine.proofs.Stages.{any-first, any-second, leaf-or-adaptor, children-lower, Lined}
 use Rattle.engine.proofs.Climb.{rises}
-use Rattle.engine.proofs.Fall.{Falling, Sends}
+use Rattle.engine.proofs.Fall.{Falling}
 
 -- which of two trees holds the leaf
 choose : (b c : Bool) {v x y : ℤ} → T (b || c) → (T b → v ≡ x) → (T c → v ≡ y) → v ≡ cond b x y
@@ -42,22 +39,21 @@ holds-either : (t : Tree) (k : Join) (i : ℕ) (t1 t2 : Tree) (j : ℕ) → t �
 unfolding holds
 holds-either t k i t1 t2 j e h = subst (λ (x : Tree). T (holds x j)) e h
 
-module _ (r : Record) (acc : Accepted r) (words rows : List ℕ) (n : ℕ) (says : (j : ℕ) → j < 31 → Says (partAt r j) (ratioAt r j) (getD words j 0))
-    (lists : Lists (λ j. isAdaptor (partAt r j)) (r .count) rows n) (ups : List ℤ) where
+module _ {r : Record} {words rows : List ℕ} {n : ℕ} (lined : Lined r words rows n) (ups : List ℤ) where
   -- no adaptor has sent
-  pub falling-begun : (top : ℤ) (ds : List ℤ) → length ds ≡ 31 → Falling r acc words rows n says lists ups top n (set ds (r .count - 1) top)
+  pub falling-begun : (top : ℤ) (ds : List ℤ) → length ds ≡ 31 → Falling lined ups top n (set ds (r .count - 1) top)
   falling-begun top ds long =
-      let short = acc .short in
-      let some = acc .some in
+      let short = lined .accepted .short in
+      let some = lined .accepted .some in
       record {
         long = length-set ds (r .count - 1) top ∙ long;
         above = getD-set-same ds (r .count - 1) top (pos 0) (omega arith);
         sends = λ p a l e h.
-            absurd (omega (arith, lists .all, rank-rises (λ i. isAdaptor (partAt r i)) p (r .count) l (ap isAdaptor e)));
+            absurd (omega (arith, lined .lists .all, rank-rises (λ i. isAdaptor (partAt r i)) p (r .count) l (ap isAdaptor e)));
       }
 
-  module _ (w : ℕ → ℤ) (right : (j : ℕ) → j < r .count → waveAt ups j ≡ rises r acc words rows n says lists w j) (top : ℤ) (ds : List ℤ)
-      (falling : Falling r acc words rows n says lists ups top 0 ds) where
+  module _ (w : ℕ → ℤ) (right : (j : ℕ) → j < r .count → waveAt ups j ≡ rises r w j) (top : ℤ) (ds : List ℤ)
+      (falling : Falling lined ups top 0 ds) where
     abbrev reaches : ℕ → ℤ → ℕ → ℤ
     reaches i a3 j = reach (rounded r) (ratioAt r) w (treeAt r i) a3 j
 
@@ -67,26 +63,26 @@ module _ (r : Record) (acc : Accepted r) (words rows : List ℕ) (n : ℕ) (says
     reached (suc d) i h l j held =
         ⊎-elim
         (λ x.
-        let t = Trees.tree-leaf r (acc .lower) i (x .0) (x .1) in
-        sym (ap (waveAt ds) (holds-one (treeAt r i) i j t held)) ∙ sym (Trees.reach-leaf r (acc .lower) i t (rounded r) (ratioAt r) w (waveAt ds i) j))
+        let t = Trees.tree-leaf r (lined .accepted .lower) i (x .0) (x .1) in
+        sym (ap (waveAt ds) (holds-one (treeAt r i) i j t held)) ∙ sym (Trees.reach-leaf r (lined .accepted .lower) i t (rounded r) (ratioAt r) w (waveAt ds i) j))
         (λ x. joint (x .0) (x .1) (reached d))
-        (leaf-or-adaptor (partAt r i) (acc .present i l))
+        (leaf-or-adaptor (partAt r i) (lined .accepted .present i l))
       where
         joint : (a : Joint) → partAt r i ≡ Adaptor a
             → ((c : ℕ) → c < d → c < r .count → (k : ℕ) → T (holds (treeAt r c) k) → waveAt ds k ≡ reaches c (waveAt ds c) k)
             → waveAt ds j ≡ reaches i (waveAt ds i) j
         joint a e deeper =
-            let lower = children-lower r acc i a e in
+            let lower = children-lower r (lined .accepted) i a e in
             let sends = falling .sends i a l e (omega arith) in
             let first = right (a .first) (omega arith) in
             let second = right (a .second) (omega arith) in
-            let a1 = rises r acc words rows n says lists w (a .first) in
-            let a2 = rises r acc words rows n says lists w (a .second) in
+            let a1 = rises r w (a .first) in
+            let a2 = rises r w (a .second) in
             let to-first : waveAt ds (a .first) ≡ sendsFirst (rounded r) (a .join) (ratioAt r i) a1 a2 (waveAt ds i) =
             sends .first ∙ rw (first, second) (any-first noRecord r (ratioAt r i) a1 a2 (waveAt ds i) (a .join)) in
             let to-second : waveAt ds (a .second) ≡ sendsSecond (rounded r) (a .join) (ratioAt r i) a1 a2 (waveAt ds i) =
             sends .second ∙ rw (first, second) (any-second noRecord r (ratioAt r i) a1 a2 (waveAt ds i) (a .join)) in
-            choose (holds (treeAt r (a .first)) j) (holds (treeAt r (a .second)) j) (holds-either (treeAt r i) (a .join) i _ _ j (Trees.tree-adaptor r (acc .lower) i a e) held)
+            choose (holds (treeAt r (a .first)) j) (holds (treeAt r (a .second)) j) (holds-either (treeAt r i) (a .join) i _ _ j (Trees.tree-adaptor r (lined .accepted .lower) i a e) held)
             (λ x. deeper (a .first) (omega arith) (omega arith) j x ∙ ap (λ z. reaches (a .first) z j) to-first)
             (λ x. deeper (a .second) (omega arith) (omega arith) j x ∙ ap (λ z. reaches (a .second) z j) to-second)
-            ∙ sym (Trees.reach-adaptor r (acc .lower) i a e (rounded r) (ratioAt r) w (waveAt ds i) j)
+            ∙ sym (Trees.reach-adaptor r (lined .accepted .lower) i a e (rounded r) (ratioAt r) w (waveAt ds i) j)

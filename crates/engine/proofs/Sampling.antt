@@ -1,36 +1,34 @@
 -- One sample, from the lists that the sweeps leave to the definition: the top's wave, the waves that arrive, the two refusals, the output and
 -- what is stored.
-use Prim.Native.Nat.{ℕ, zero, suc, _+_, _-_, _<_, _≤_}
-use native.Mathlib.Nat.{lt-irrefl}
+use Prim.Native.Nat.{ℕ, _-_, _<_, _≤_}
 use native.Mathlib.Omega.{arith}
 use mathlib.Core.Path.{_≡_, refl, sym, ap, ap₂, _∙_, subst}
-use mathlib.Core.Bool.{Bool, true, false, not, cond, _&&_, _||_}
-use mathlib.Core.Logic.{_⊎_, inl, inr, ⊎-elim}
+use mathlib.Core.Bool.{Bool, true, false, not, _||_}
+use mathlib.Core.Logic.{⊎-elim}
 use mathlib.Core.List.{List}
-use lib.Dec.{T, eqb}
 use lib.ListN.{getD, length, set, length-set}
-use lib.IntN.{ℤ, pos, natAbs, _+ℤ_}
-use borrow.Author.Tests.{eq-eqb, ne-eqb, not-true, not-false}
+use lib.IntN.{ℤ, natAbs}
+use borrow.Author.Tests.{not-true, not-false}
 use Rattle.whole.specs.Order.{Abs, abs-as}
 use Rattle.circuit.specs.Counting.{within, every, some, table}
-use Rattle.circuit.specs.Record.{partAt, isLeaf, isInput, sourceLimit, rowLimit, treeAt, treeOf, lastRow, top}
+use Rattle.circuit.specs.Record.{partAt, isLeaf, sourceLimit, rowLimit, treeAt, treeOf, lastRow}
 use Rattle.circuit.specs.Curve.{waveLimit, reflected}
 use Rattle.circuit.specs.SetUp.{ratioAt}
-use Rattle.circuit.specs.Sample.{rounded, sendsUp, reach, sent, risen, arriving, kept, output, inLimit, sampled, refused, finished}
+use Rattle.circuit.specs.Sample.{rounded, sendsUp, reach, risen, arriving, kept, output, inLimit, sampled, refused, finished}
 use Rattle.circuit.specs.declared.Record.{Record}
 use Rattle.circuit.specs.declared.Adaptor.{Adaptor as Joint}
-use Rattle.circuit.specs.declared.Part.the-variants.{Leaf, Adaptor}
+use Rattle.circuit.specs.declared.Part.the-variants.{Adaptor}
 use Rattle.laws.specs.Accepted.{Accepted}
 use Rattle.laws.proofs.Trees as Trees
 use Rattle.laws.proofs.Counting as Counting
 use Rattle.engine.specs.declared.plan.Shape.{Shape}
 use Rattle.engine.specs.Wave.{counting}
-use Rattle.engine.specs.Plan.{Lists, rank}
+use Rattle.engine.specs.Plan.{rank}
 use Rattle.engine.specs.Sweep.{waveAt, climbed, Climbs, dropped, Drops}
-use Rattle.engine.specs.Sample.{Fixed, Loaded, tapRow}
+use Rattle.engine.specs.Sample.{Fixed, Loaded}
 use Rattle.engine.proofs.Limits.{within-abs}
 use Rattle.engine.proofs.Ranks.{place, placed}
-use Rattle.engine.proofs.Stages.{leaf-or-adaptor, children-lower}
+use Rattle.engine.proofs.Stages.{leaf-or-adaptor, children-lower, Lined}
 use Rattle.engine.proofs.Climb as Climb
 use Rattle.engine.proofs.Fall as Fall
 use Rattle.engine.proofs.Reach as Reach
@@ -46,6 +44,9 @@ module _ {shape : Shape} {words adaptors leaves reactive : List ℕ} {xs ys : Li
   module _ (quiet : within sourceLimit x ≡ true) where
     abbrev acc : Accepted r
     acc = fixed .accepted
+
+    lined : Lined r words adaptors (shape .adaptors)
+    lined = record { accepted = fixed .accepted; says = fixed .planned .says; lists = fixed .planned .adaptors }
 
     abbrev n : ℕ
     n = shape .adaptors
@@ -67,16 +68,16 @@ module _ {shape : Shape} {words adaptors leaves reactive : List ℕ} {xs ys : Li
     there = all-sent r acc ws ups loaded x quiet (shape .input) (fixed .inside) (fixed .input)
 
     pub climbs : Climbs words adaptors n started
-    climbs = Climb.climbs r acc words adaptors n (fixed .planned .says) (fixed .planned .adaptors) w started long there (sends-quiet r acc ws ups loaded x quiet)
+    climbs = Climb.climbs lined w started long there (sends-quiet r acc ws ups loaded x quiet)
 
     abbrev rises : ℕ → ℤ
-    rises = Climb.rises r acc words adaptors n (fixed .planned .says) (fixed .planned .adaptors) w
+    rises = Climb.rises r w
 
     risen-at : (j : ℕ) → j < r .count → waveAt above j ≡ rises j
-    risen-at = Climb.all-risen r acc words adaptors n (fixed .planned .says) (fixed .planned .adaptors) w started long there (sends-quiet r acc ws ups loaded x quiet)
+    risen-at = Climb.all-risen lined w started long there (sends-quiet r acc ws ups loaded x quiet)
 
     pub above-long : length above ≡ 31
-    above-long = Climb.risen-to r acc words adaptors n (fixed .planned .says) (fixed .planned .adaptors) w started long there n (omega arith) .long
+    above-long = Climb.risen-to lined w started long there n (omega arith) .long
 
     -- a leaf's row keeps what the leaf sends
     pub leaf-risen : (j : ℕ) → isLeaf (partAt r j) ≡ true → waveAt above j ≡ w j
@@ -118,25 +119,25 @@ module _ {shape : Shape} {words adaptors leaves reactive : List ℕ} {xs ys : Li
       answer-range = let bound = within-abs waveLimit (waveAt above (shape .last)) calm in record { bound = omega (arith, bound .bound) }
 
       above-range : (j : ℕ) → j < r .count → Abs (waveAt above j) 2080374784
-      above-range j l = rw (risen-at j l) (Climb.rises-range r acc words adaptors n (fixed .planned .says) (fixed .planned .adaptors) w started long there (sends-quiet r acc ws ups loaded x quiet) j l)
+      above-range j l = rw (risen-at j l) (Climb.rises-range lined w started long there (sends-quiet r acc ws ups loaded x quiet) j l)
 
       joined : (p : ℕ) (a : Joint) → p < r .count → partAt r p ≡ Adaptor a
           → waveAt above p ≡ sendsUp counting (a .join) (ratioAt r p) (waveAt above (a .first)) (waveAt above (a .second))
       joined p a l e =
           let lower = children-lower r acc p a e in
-          risen-at p l ∙ Climb.rises-adaptor r acc words adaptors n (fixed .planned .says) (fixed .planned .adaptors) w p a e
+          risen-at p l ∙ Climb.rises-adaptor r acc w p a e
           ∙ sym (ap₂ (sendsUp counting (a .join) (ratioAt r p)) (risen-at (a .first) (omega arith)) (risen-at (a .second) (omega arith)))
 
-      begun : Fall.Falling r acc words adaptors n (fixed .planned .says) (fixed .planned .adaptors) above answer n (set ds (shape .last) answer)
+      begun : Fall.Falling lined above answer n (set ds (shape .last) answer)
       begun =
-          subst (λ (i : ℕ). Fall.Falling r acc words adaptors n (fixed .planned .says) (fixed .planned .adaptors) above answer n (set ds i answer)) (sym (fixed .last))
-          (Reach.falling-begun r acc words adaptors n (fixed .planned .says) (fixed .planned .adaptors) above answer ds room)
+          subst (λ (i : ℕ). Fall.Falling lined above answer n (set ds i answer)) (sym (fixed .last))
+          (Reach.falling-begun lined above answer ds room)
 
       pub drops : Drops words adaptors above n (set ds (shape .last) answer)
-      drops = Fall.drops r acc words adaptors n (fixed .planned .says) (fixed .planned .adaptors) above above-range answer answer-range joined n (omega arith) (set ds (shape .last) answer) begun
+      drops = Fall.drops lined above above-range answer answer-range joined n (omega arith) (set ds (shape .last) answer) begun
 
-      fallen : Fall.Falling r acc words adaptors n (fixed .planned .says) (fixed .planned .adaptors) above answer 0 below
-      fallen = Fall.fallen r acc words adaptors n (fixed .planned .says) (fixed .planned .adaptors) above above-range answer answer-range joined n (omega arith) (set ds (shape .last) answer) begun
+      fallen : Fall.Falling lined above answer 0 below
+      fallen = Fall.fallen lined above above-range answer answer-range joined n (omega arith) (set ds (shape .last) answer) begun
 
       pub below-long : length below ≡ 31
       below-long = fallen .long
@@ -144,7 +145,7 @@ module _ {shape : Shape} {words adaptors leaves reactive : List ℕ} {xs ys : Li
       pub arrived : (j : ℕ) → isLeaf (partAt r j) ≡ true → waveAt below j ≡ arriving (rounded r) r (waveAt ws) x j
       unfolding arriving treeOf lastRow
       arrived j e =
-          Reach.reached r acc words adaptors n (fixed .planned .says) (fixed .planned .adaptors) above w risen-at answer below fallen (r .count) (r .count - 1) top-row top-row j
+          Reach.reached lined above w risen-at answer below fallen (r .count) (r .count - 1) top-row top-row j
           (acc .held j (true-t _ e))
           ∙ ap (λ z. reach (rounded r) (ratioAt r) w (treeAt r (r .count - 1)) z j) (fallen .above ∙ answers ∙ ap (reflected r) risen-top)
 

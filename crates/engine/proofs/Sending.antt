@@ -1,24 +1,22 @@
 -- What the leaves send with a sample: the sample at the input's row, and at every other leaf's what it was loaded with. None of it passes 2^26.
-use Prim.Native.Nat.{ℕ, zero, suc, _+_, _<_, _≤_}
+use Prim.Native.Nat.{ℕ, _<_}
 use native.Mathlib.Decide.{ℕ-discrete, decLt}
-use native.Mathlib.Nat.{lt-irrefl}
 use native.Mathlib.Omega.{arith}
 use mathlib.Core.Path.{_≡_, refl, sym, ap, _∙_, subst}
-use mathlib.Core.Bool.{Bool, true, false, true≢false, cond, _&&_, and-eq-true-iff}
+use mathlib.Core.Bool.{Bool, true, false, true≢false, and-eq-true-iff}
 use mathlib.Core.Logic.{_⊎_, inl, inr, ⊎-elim}
 use mathlib.Core.List.{List}
-use lib.Dec.{T, leb}
-use lib.ListN.{getD, length, set}
+use lib.Dec.{T}
+use lib.ListN.{length, set}
 use lib.Seq.{getD-set-same, getD-set-other}
-use lib.IntN.{ℤ, pos, natAbs}
+use lib.IntN.{ℤ, pos}
 use lib.Ieee.Positive.{positive}
 use Rattle.whole.specs.Order.{zarith, Abs, abs-as}
-use Rattle.circuit.specs.Counting.{within, total, one}
+use Rattle.circuit.specs.Counting.{within, one}
 use Rattle.circuit.specs.Record.{partAt, isLeaf, isInput, inputs, soundPart, sourceLimit}
 use Rattle.circuit.specs.Curve.{waveLimit}
 use Rattle.circuit.specs.Sample.{rounded, sends, partSends, sent}
 use Rattle.circuit.specs.Run.{soundWave}
-use Rattle.circuit.specs.declared.Element.{Element}
 use Rattle.circuit.specs.declared.Element.the-variants.{Resistor, Capacitor, Inductor, Input, Steady}
 use Rattle.circuit.specs.declared.Part.{Part}
 use Rattle.circuit.specs.declared.Part.the-variants.{Blank, Leaf, Adaptor}

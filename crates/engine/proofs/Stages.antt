@@ -1,10 +1,9 @@
 -- The adaptors of a record in the order of their rows: the one at place k of the list, and what its word says. What an adaptor does is the
 -- same for every record.
-use Prim.Native.Nat.{ℕ, zero, suc, _<_, _≤_}
-use native.Mathlib.Nat.{lt-irrefl, lt-of-lt-of-le}
+use Prim.Native.Nat.{ℕ, _<_}
 use native.Mathlib.Omega.{arith}
 use mathlib.Core.Path.{_≡_, refl, sym, ap, _∙_, subst}
-use mathlib.Core.Bool.{Bool, true, false, true≢false}
+use mathlib.Core.Bool.{true, false, true≢false}
 use mathlib.Core.Logic.{_⊎_, inl, inr}
 use mathlib.Core.List.{List}
 use lib.ListN.{getD}
@@ -19,7 +18,7 @@ use Rattle.circuit.specs.declared.Adaptor.{Adaptor as Joint}
 use Rattle.circuit.specs.declared.Part.{Part}
 use Rattle.circuit.specs.declared.Part.the-variants.{Blank, Leaf, Adaptor}
 use Rattle.circuit.specs.declared.Record.{Record}
-use Rattle.laws.specs.Accepted.{Lower, Child, Accepted}
+use Rattle.laws.specs.Accepted.{Lower, Accepted}
 use Rattle.engine.specs.Plan.{isAdaptor, rank, linkFor, Says, Lists}
 use Rattle.engine.specs.Sweep.{linkAt}
 use Rattle.engine.proofs.Ranks.{place}
@@ -73,22 +72,24 @@ pub record Stage (r : Record) (words rows : List ℕ) (k : ℕ) : Type 0 where
   pub listed : getD rows k 0 ≡ row
   pub link : linkAt words row ≡ linkFor joint (ratioAt r row)
 
-module _ (r : Record) (acc : Accepted r) (words rows : List ℕ) (n : ℕ) (says : (j : ℕ) → j < 31 → Says (partAt r j) (ratioAt r j) (getD words j 0))
-    (lists : Lists (λ j. isAdaptor (partAt r j)) (r .count) rows n) where
-  pub is-adaptor : (p : ℕ) (a : Joint) → partAt r p ≡ Adaptor a → isAdaptor (partAt r p) ≡ true
-  is-adaptor p a e = ap isAdaptor e
+-- The list has the adaptors of an accepted record, and the words say what they are.
+pub record Lined (r : Record) (words rows : List ℕ) (n : ℕ) : Type 0 where
+  pub accepted : Accepted r
+  pub says : (j : ℕ) → j < 31 → Says (partAt r j) (ratioAt r j) (getD words j 0)
+  pub lists : Lists (λ j. isAdaptor (partAt r j)) (r .count) rows n
 
+module _ {r : Record} {words rows : List ℕ} {n : ℕ} (lined : Lined r words rows n) where
   pub stage-at : (k : ℕ) → k < n → Stage r words rows k
   unfolding Says
   stage-at k l =
-      let w = place lists k l in
+      let w = place (lined .lists) k l in
       let j = adaptor-of (partAt r (w .row)) (w .chosen) in
-      let short = acc .short in
+      let short = lined .accepted .short in
       let inside = w .inside in
       let said : Says (Adaptor (j .0)) (ratioAt r (w .row)) (getD words (w .row) 0) =
-      subst (λ (p : Part). Says p (ratioAt r (w .row)) (getD words (w .row) 0)) (j .1) (says (w .row) (omega arith)) in
+      subst (λ (p : Part). Says p (ratioAt r (w .row)) (getD words (w .row) 0)) (j .1) (lined .says (w .row) (omega arith)) in
       record { row = w .row; joint = j .0; inside = w .inside; part = j .1; place = w .rank; listed = w .listed; link = said }
 
   -- a row at a stage's place is its row
   pub same-place : (k : ℕ) (s : Stage r words rows k) (j : ℕ) → j < r .count → isAdaptor (partAt r j) ≡ true → adaptorRank r j ≡ k → j ≡ s .row
-  same-place k s j l e p = sym (lists .each j l e) ∙ ap (λ m. getD rows m 0) p ∙ s .listed
+  same-place k s j l e p = sym (lined .lists .each j l e) ∙ ap (λ m. getD rows m 0) p ∙ s .listed

@@ -6,13 +6,12 @@ use lib.IntN.{ℤ, pos}
 use lib.ListN.{length, replicate}
 use Rattle.circuit.specs.Numbers.{handed, judge}
 use Rattle.circuit.specs.Record.{rowLimit}
-use Rattle.circuit.specs.Run.{Ran, runRules, ran}
+use Rattle.circuit.specs.Run.{Ran, runRules, ran, call}
 use Rattle.circuit.specs.SetUp.{preparedRows}
 use Rattle.circuit.specs.declared.Prepared.{Prepared}
 use Rattle.circuit.specs.declared.Progress.{Progress}
 use Rattle.circuit.specs.declared.Record.{Record}
 use Rattle.laws.specs.Accepted.{Sized}
-use Rattle.circuit.specs.Run.{call}
 use Rattle.engine.specs.declared.plan.Shape.{Shape}
 use Rattle.engine.specs.declared.play.Stop.{Stop}
 use Rattle.engine.specs.Sample.{Fixed, Loaded}

@@ -31,8 +31,7 @@ ghost use Rattle.engine.specs.Plan.{partIn, partTaken};
 ghost use Rattle.engine.specs.Sweep.{waveAt};
 ghost use Rattle.engine.specs.Sample.{Ready};
 ghost use Rattle.engine.specs.Play.{silence, Plays, Playable, progress};
-ghost use Rattle.circuit.specs.Run.{ran};
-ghost use Rattle.circuit.specs.Run.{call};
+ghost use Rattle.circuit.specs.Run.{ran, call};
 
 // What each row sends from its stored wave; the input's row waits for a sample.
 fn load(rows: [Row; ROWS], state: State) -> [i64; ROWS]

@@ -1,18 +1,13 @@
 -- `run` meets its contract: a call that 4 to 13 refuse is turned away, and any other is played.
-use Prim.Native.Nat.{ℕ, _<_}
+use Prim.Native.Nat.{_<_}
 use native.Mathlib.Omega.{arith}
-use mathlib.Core.Path.{_≡_, refl, sym, ap, _∙_, subst}
-use mathlib.Core.List.{List}
-use mathlib.Core.Bool.{cond}
-use lib.ListN.{length, length-map}
+use mathlib.Core.Path.{_≡_, refl, sym, ap, _∙_}
 use borrow.Author.Needs.{needs}
-use borrow.Author.Tests.{eq-eqb}
 use Rattle.circuit.specs.Numbers.{handed, done, judge}
 use Rattle.circuit.specs.SetUp.{setUpReport, setUpRows, preparedRows}
-use Rattle.circuit.specs.Run.{Call, Ran, runRules, ran, turnedAway}
+use Rattle.circuit.specs.Run.{Call, runRules, ran, turnedAway, call}
 use Rattle.circuit.specs.declared.Record.{Record}
-use Rattle.circuit.specs.Run.{call}
-use Rattle.laws.proofs.Running.{Allowed, zero-allowed, ran-refused}
+use Rattle.laws.proofs.Running.{zero-allowed, ran-refused}
 use Rattle.laws.proofs.Sizes.{sized}
 use Rattle.engine.proofs.Holding.{state-sized}
 use Rattle.engine.proofs.run.Statement.{statement}
@@ -36,9 +31,10 @@ judged c = c .refusal .ensures (c .before .before .before .args .input .now) (c 
 
 returns : tie.Need-returns
 returns c =
+    let start = c .before .before .before .before .before in
     let j = judged (c .before .before) in
-    let above : 0 < judge runRules (called (c .before .before .before .before .before)) .number = rw (← j) (omega (arith, c .before .number .ensures, c .if1 .taken)) in
-    let e : ran (called (c .before .before .before .before .before)) ≡ turnedAway (called (c .before .before .before .before .before)) (judge runRules (called (c .before .before .before .before .before))) = ran-refused (called (c .before .before .before .before .before)) above in
+    let above : 0 < judge runRules (called start) .number = rw (← j) (omega (arith, c .before .number .ensures, c .if1 .taken)) in
+    let e : ran (called start) ≡ turnedAway (called start) (judge runRules (called start)) = ran-refused (called start) above in
     rw e (j, (refl, (refl, refl)))
 
 -- none of them applies
@@ -51,7 +47,9 @@ unfolding setUpRows
 kept-rows r e = rw e
 
 play-requires : tie.Need-play-requires
-play-requires c κs = record { sized = sized (c .before .before .before .before .before .before .args .r) _ (c .before .before .before .before .before .before .good .0); stored = state-sized (c .before .before .before .before .before .before .args .state) _ (c .before .before .before .before .before .before .good .1 .0); prepared = c .before .before .before .before .before .set-up .ensures .1 ∙ kept-rows (c .before .before .before .before .before .before .args .r) (zero-allowed (called (c .before .before .before .before .before .before)) (passed (c .before)) .setUp); allowed = passed (c .before) }
+play-requires c κs =
+    let start = c .before .before .before .before .before .before in
+    record { sized = sized (start .args .r) _ (start .good .0); stored = state-sized (start .args .state) _ (start .good .1 .0); prepared = c .before .before .before .before .before .set-up .ensures .1 ∙ kept-rows (start .args .r) (zero-allowed (called start) (passed (c .before)) .setUp); allowed = passed (c .before) }
 
 returns-2 : tie.Need-returns-2
 returns-2 c = rw (c .before .play .ensures) (refl, (refl, (refl, refl)))

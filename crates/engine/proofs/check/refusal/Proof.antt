@@ -3,8 +3,7 @@ use mathlib.Core.Path.{sym, ap₂, _∙_}
 use borrow.Author.Needs.{needs}
 use lib.Dec.{eqb}
 use Rattle.circuit.specs.Numbers.{unless}
-use Rattle.circuit.specs.Run.{storedWaves, lengths}
-use Rattle.circuit.specs.Run.{call}
+use Rattle.circuit.specs.Run.{storedWaves, lengths, call}
 use Rattle.setup.specs.Answers.{numbered}
 use Rattle.engine.proofs.Refusing.{by-set-up, by-waves, by-lengths}
 use Rattle.engine.proofs.check.refusal.Statement.{statement}

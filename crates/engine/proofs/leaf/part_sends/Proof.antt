@@ -1,5 +1,5 @@
 -- `part_sends` meets its contract, part by part.
-use mathlib.Core.Path.{_≡_, _∙_}
+use mathlib.Core.Path.{_∙_}
 use mir.Facts.{toZ-ofZ}
 use borrow.Author.Needs.{needs}
 use Rattle.engine.proofs.leaf.part_sends.Statement.{statement}

@@ -1,5 +1,5 @@
 -- `part_taken` meets its contract, part by part.
-use mathlib.Core.Path.{_≡_, sym, ap, _∙_}
+use mathlib.Core.Path.{sym, ap, _∙_}
 use borrow.Author.Needs.{needs}
 use Rattle.engine.specs.Plan.{partTaken}
 use Rattle.engine.proofs.leaf.part_taken.Statement.{statement}

@@ -1,8 +1,7 @@
 -- `sent` meets its contract, element by element.
-use mathlib.Core.Path.{_≡_, refl, _∙_}
+use mathlib.Core.Path.{refl, _∙_}
 use mir.Syntax.{w32}
 use mir.Val.{SFits}
-use mir.Facts.{toZ-ofZ}
 use borrow.Author.Needs.{needs}
 use Rattle.circuit.specs.Sample.{sends}
 use Rattle.engine.proofs.Wide.{widened, wide-same}

@@ -1,5 +1,4 @@
 -- `entered` meets its contract, at each outcome of its test.
-use mathlib.Core.Path.{_≡_}
 use borrow.Author.Needs.{needs}
 use Rattle.engine.proofs.plan.entered.Statement.{statement}
 use Rattle.engine.proofs.plan.entered.Tie as tie

@@ -1,5 +1,5 @@
 -- `input_row` meets its contract. The loop's invariant: no row below i is an input, so the walk does not reach the end.
-use Prim.Native.Nat.{ℕ, _+_, _-_, _≤_, _<_}
+use Prim.Native.Nat.{ℕ, _-_, _≤_}
 use native.Mathlib.Omega.{arith}
 use mathlib.Core.Path.{_≡_, refl, sym, ap, _∙_}
 use mathlib.Core.List.{List}
@@ -44,8 +44,9 @@ loop-less c = omega arith
 
 loop-again : tie.Need-loop-again Inv-loop μ-loop
 loop-again c =
-    let none : Inputs (c .before .before .before .before .before .args .t1) (c .before .before .before .before .loop .i) ≡ 0 = ap one (sym (c .before .is-input .ensures) ∙ c .if1 .left) in
-    (omega arith, Counting.total-step (Inputs (c .before .before .before .before .before .args .t1)) (c .before .before .before .before .loop .i) ∙ omega (arith, c .before .before .before .before .loop .inv .1))
+    let start = c .before .before .before .before .before in
+    let none : Inputs (start .args .t1) (c .before .before .before .before .loop .i) ≡ 0 = ap one (sym (c .before .is-input .ensures) ∙ c .if1 .left) in
+    (omega arith, Counting.total-step (Inputs (start .args .t1)) (c .before .before .before .before .loop .i) ∙ omega (arith, c .before .before .before .before .loop .inv .1))
 
 returns-2 : tie.Need-returns-2 Inv-loop μ-loop
 returns-2 c =

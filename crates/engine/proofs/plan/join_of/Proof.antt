@@ -1,5 +1,4 @@
 -- `join_of` meets its contract, at each outcome of its test.
-use mathlib.Core.Path.{_≡_, refl}
 use borrow.Author.Tests.{eq-eqb, ne-eqb}
 use Rattle.engine.proofs.plan.join_of.Statement.{statement}
 use Rattle.engine.proofs.plan.join_of.Tie as tie

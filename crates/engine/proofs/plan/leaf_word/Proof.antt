@@ -1,5 +1,5 @@
 -- `leaf_word` meets its contract, element by element.
-use mathlib.Core.Path.{_≡_, refl}
+use mathlib.Core.Path.{refl}
 use Rattle.engine.specs.Plan.{Says}
 use borrow.Author.Needs.{needs}
 use Rattle.engine.proofs.plan.leaf_word.Statement.{statement}

@@ -1,5 +1,4 @@
 -- `pack` meets its contract, part by part. A leaf's word does not look at the ratio.
-use mathlib.Core.Path.{_≡_, refl}
 use Prim.Native.Nat.{ℕ}
 use Rattle.circuit.specs.declared.Element.{Element}
 use Rattle.circuit.specs.declared.Element.the-variants.{Resistor, Capacitor, Inductor, Input, Steady}

@@ -1,10 +1,9 @@
 -- `rows_of` meets its contract. The loop's invariant: the list has the chosen rows below i.
 use Prim.Native.Nat.{_≤_, _<_, _-_}
 use native.Mathlib.Omega.{arith}
-use mathlib.Core.Path.{_≡_, refl, ap, sym, _∙_}
+use mathlib.Core.Path.{_≡_, refl, sym, _∙_}
 use lib.ListN.{length}
-use borrow.Author.Needs.{needs}
-use Rattle.engine.specs.Plan.{chosenBy, partIn, Lists, rank}
+use Rattle.engine.specs.Plan.{chosenBy, partIn, Lists}
 use Rattle.engine.proofs.Ranks.{rank-below, lists-none, lists-more, entered-long}
 use Rattle.engine.proofs.plan.rows_of.Statement.{statement}
 use Rattle.engine.proofs.plan.rows_of.Tie as tie
@@ -40,13 +39,14 @@ loop-less c = omega arith
 
 loop-again : tie.Need-loop-again Inv-loop μ-loop
 loop-again c =
+    let start = c .before .before .before .before .before in
     let l = c .before .before .before .before .loop .list in
     let i = c .before .before .before .before .loop .i in
     let inside : i < 31 = omega arith in
     rw (c .entered .ensures) (
       omega arith,
       entered-long (c .before .chosen .result) i l ∙ c .before .before .before .before .loop .inv .1,
-      lists-more (λ j. chosenBy (c .before .before .before .before .before .args .choice) (partIn (c .before .before .before .before .before .args .t1) j)) i l (omega (arith, c .before .before .before .before .loop .inv .1)) (c .before .before .before .before .loop .inv .2) (c .before .chosen .result) (sym (c .before .chosen .ensures)),
+      lists-more (λ j. chosenBy (start .args .choice) (partIn (start .args .t1) j)) i l (omega (arith, c .before .before .before .before .loop .inv .1)) (c .before .before .before .before .loop .inv .2) (c .before .chosen .result) (sym (c .before .chosen .ensures)),
     )
 
 returns : tie.Need-returns Inv-loop μ-loop

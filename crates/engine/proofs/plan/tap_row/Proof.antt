@@ -1,5 +1,4 @@
 -- `tap_row` meets its contract, at each outcome of its test.
-use mathlib.Core.Path.{_≡_}
 use borrow.Author.Needs.{needs}
 use borrow.Author.Tests.{eq-eqb, ne-eqb}
 use Rattle.engine.proofs.plan.tap_row.Statement.{statement}

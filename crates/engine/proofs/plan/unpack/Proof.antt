@@ -1,5 +1,4 @@
 -- `unpack` meets its contract: the parts of the word are those of `linkOf`.
-use mathlib.Core.Path.{_≡_}
 use borrow.Author.Needs.{needs}
 use Rattle.engine.specs.Plan.{linkOf}
 use Rattle.engine.proofs.plan.unpack.Statement.{statement}

@@ -47,12 +47,13 @@ loop-less c = omega arith
 
 loop-again : tie.Need-loop-again Inv-loop μ-loop
 loop-again c =
+    let start = c .before .before .before .before .before in
     let ws = c .before .before .before .before .loop .words in
     let i = c .before .before .before .before .loop .i in
     let size : length ws ≡ 31 = c .before .before .before .before .loop .inv .1 in (
       omega arith,
       length-set ws i (c .pack .result) ∙ size,
-      filled-more (λ j w. Says (partIn (c .before .before .before .before .before .args .t1) j) (ratioIn (c .before .before .before .before .before .args .t2) j) w) 0 ws i (c .pack .result) (omega arith) (c .before .before .before .before .loop .inv .2) (c .pack .ensures),
+      filled-more (λ j w. Says (partIn (start .args .t1) j) (ratioIn (start .args .t2) j) w) 0 ws i (c .pack .result) (omega arith) (c .before .before .before .before .loop .inv .2) (c .pack .ensures),
     )
 
 returns : tie.Need-returns Inv-loop μ-loop

@@ -1,9 +1,9 @@
 -- `load` meets its contract. The loop's invariant: the rows below i hold what they send.
-use Prim.Native.Nat.{ℕ, _+_, _-_, _≤_, _<_}
+use Prim.Native.Nat.{ℕ, _-_, _≤_, _<_}
 use native.Mathlib.Omega.{arith}
 use mathlib.Core.Path.{_≡_, refl, _∙_}
-use lib.ListN.{getD, length, length-set}
-use lib.IntN.{ℤ, pos}
+use lib.ListN.{length, length-set}
+use lib.IntN.{pos}
 use mir.Syntax.{w32, w64}
 use mir.Val.{SFits}
 use mir.Facts.{toZ-ofZ}
@@ -54,19 +54,21 @@ loop-less c = omega arith
 
 loop-again : tie.Need-loop-again Inv-loop μ-loop
 loop-again c =
-    let us = c .before .before .before .before .before .loop .up in
-    let i = c .before .before .before .before .before .loop .i in
-    let rows = c .before .before .before .before .before .before .args .t1 in
-    let ws = c .before .before .before .before .before .before .args .t2 .waves in
+    let start = c .before .before .before .before .before .before in
+    let at-loop = c .before .before .before .before .before in
+    let us = at-loop .loop .up in
+    let i = at-loop .loop .i in
+    let rows = start .args .t1 in
+    let ws = start .args .t2 .waves in
     let v = c .before .part-sends .result .0 in
-    let size : length us ≡ 31 = c .before .before .before .before .before .loop .inv .1 in
+    let size : length us ≡ 31 = at-loop .loop .inv .1 in
     let result : SFits w64 v = record { sfits = c .struct-told .given .0 .1 } in
     let stored : SFits w32 (waveAt ws i) = record { sfits = c .before .before .part-sends-arg .given } in
     let sent : v ≡ partSends counting (pos 0) (waveAt ws i) (partIn rows i) = rw (toZ-ofZ stored) at (c .before .part-sends .ensures) in
     rw (toZ-ofZ result) (
       omega arith,
       length-set us i v ∙ size,
-      filled-more (λ j z. z ≡ partSends counting (pos 0) (waveAt ws j) (partIn rows j)) (pos 0) us i v (omega arith) (c .before .before .before .before .before .loop .inv .2) sent,
+      filled-more (λ j z. z ≡ partSends counting (pos 0) (waveAt ws j) (partIn rows j)) (pos 0) us i v (omega arith) (at-loop .loop .inv .2) sent,
     )
 
 returns : tie.Need-returns Inv-loop μ-loop

@@ -1,22 +1,20 @@
 -- `play` meets its contract: what it lays out is laid out for its record, the stored waves are loaded, and what the samples leave is taken out.
-use Prim.Native.Nat.{ℕ, _-_, _≤_, _<_}
+use Prim.Native.Nat.{_-_, _≤_}
 use native.Mathlib.Omega.{arith}
-use mathlib.Core.Path.{_≡_, refl, sym, ap, _∙_, subst}
-use mathlib.Core.List.{List, map}
+use mathlib.Core.Path.{_≡_, refl, sym, ap, _∙_}
+use mathlib.Core.List.{List}
 use mathlib.Core.Bool.{cond}
 use lib.Dec.{eqb}
-use lib.IntN.{ℤ, pos}
+use lib.IntN.{ℤ}
 use lib.ListN.{length, take, length-map}
 use lib.Seq.{length-take-le}
 use borrow.Author.Needs.{needs}
-use Rattle.circuit.specs.Record.{inputs, isInput}
-use Rattle.circuit.specs.Run.{ran}
+use Rattle.circuit.specs.Record.{inputs}
+use Rattle.circuit.specs.Run.{ran, call}
 use Rattle.laws.specs.Accepted.{Accepted}
-use Rattle.circuit.specs.Run.{call}
 use Rattle.engine.specs.Play.{report}
 use Rattle.engine.specs.declared.plan.Shape.{Shape}
-use Rattle.engine.specs.Curve.{across, back, acrossOf, backOf}
-use Rattle.engine.specs.Sweep.{waveAt}
+use Rattle.engine.specs.Curve.{across, back}
 use Rattle.engine.specs.Sample.{Fixed, Loaded}
 use Rattle.engine.proofs.Loading as Loading
 use Rattle.engine.proofs.play.play.Statement.{statement}
@@ -68,10 +66,14 @@ width : (c : tie.After-wide2) → c .wide2 .result ≤ 62
 width c = rw (c .wide2 .ensures) (acc (c .before .before .before .before .before .before .before .before .before .before .before) .wide)
 
 xs-long : (c : tie.After-lay-out) → length (c .lay-out .result .xs) ≡ 62
-xs-long c = ap length (c .lay-out .ensures .0) ∙ length-map (c .before .before .before .before .before .before .before .before .before .before .args .r .columns) across ∙ c .before .before .before .before .before .before .before .before .before .before .pre .sized .columns
+xs-long c =
+    let start = c .before .before .before .before .before .before .before .before .before .before in
+    ap length (c .lay-out .ensures .0) ∙ length-map (start .args .r .columns) across ∙ start .pre .sized .columns
 
 ys-long : (c : tie.After-lay-out) → length (c .lay-out .result .ys) ≡ 62
-ys-long c = ap length (c .lay-out .ensures .1) ∙ length-map (c .before .before .before .before .before .before .before .before .before .before .args .r .columns) back ∙ c .before .before .before .before .before .before .before .before .before .before .pre .sized .columns
+ys-long c =
+    let start = c .before .before .before .before .before .before .before .before .before .before in
+    ap length (c .lay-out .ensures .1) ∙ length-map (start .args .r .columns) back ∙ start .pre .sized .columns
 
 array-share-prefix-xs : tie.Need-array-share-prefix-xs
 array-share-prefix-xs c = omega (arith, width (c .before .before .before .before .before .before .before .before .before .before), xs-long (c .before .before .before .before .before .before .before .before .before .before .before))
@@ -99,52 +101,63 @@ shape c = record {
 }
 
 fixed : (c : tie.After-load)
-    → Fixed (shape c) (c .before .before .before .before .before .before .before .before .before .before .before .before .before .before .words .result) (c .before .before .before .before .before .before .before .before .before .before .before .before .before .rows-of .result .rows) (c .before .before .before .before .before .before .before .before .before .before .before .before .rows-of2 .result .rows) (c .before .before .before .before .before .before .before .before .before .before .before .rows-of3 .result .rows)
-    (take (c .before .before .before .before .before .before .wide2 .result) (c .before .before .before .before .before .before .before .lay-out .result .xs)) (take (c .before .before .before .before .before .before .wide2 .result) (c .before .before .before .before .before .before .before .lay-out .result .ys)) (c .before .before .before .before .before .before .before .before .before .before .before .before .before .before .before .before .before .args .r)
+    → let at-lay-out = c .before .before .before .before .before .before .before in let at-wide2 = c .before .before .before .before .before .before in
+    Fixed (shape c) (c .before .before .before .before .before .before .before .before .before .before .before .before .before .before .words .result) (c .before .before .before .before .before .before .before .before .before .before .before .before .before .rows-of .result .rows) (c .before .before .before .before .before .before .before .before .before .before .before .before .rows-of2 .result .rows) (c .before .before .before .before .before .before .before .before .before .before .before .rows-of3 .result .rows)
+    (take (at-wide2 .wide2 .result) (at-lay-out .lay-out .result .xs)) (take (at-wide2 .wide2 .result) (at-lay-out .lay-out .result .ys)) (c .before .before .before .before .before .before .before .before .before .before .before .before .before .before .before .before .before .args .r)
 fixed c =
+    let start = c .before .before .before .before .before .before .before .before .before .before .before .before .before .before .before .before .before in
+    let at-input-row = c .before .before .before .before .before .before .before .before .before .before in
+    let at-lay-out = c .before .before .before .before .before .before .before in
     let n = c .before .before .before .before .before .before .before .before .before .before .before .before .before .before .before .wide .ensures in
     let w = c .before .before .before .before .before .before .wide2 .ensures in
     record {
-      accepted = acc (c .before .before .before .before .before .before .before .before .before .before .before .before .before .before .before .before .before);
+      accepted = acc start;
       planned = record {
-        says = λ j l. Loading.says (c .before .before .before .before .before .before .before .before .before .before .before .before .before .before .before .before .before .pre) j _ l (c .before .before .before .before .before .before .before .before .before .before .before .before .before .before .words .ensures j l);
+        says = λ j l. Loading.says (start .pre) j _ l (c .before .before .before .before .before .before .before .before .before .before .before .before .before .before .words .ensures j l);
         adaptors = rw n at (c .before .before .before .before .before .before .before .before .before .before .before .before .before .rows-of .ensures);
         leaves = rw n at (c .before .before .before .before .before .before .before .before .before .before .before .before .rows-of2 .ensures);
         reactive = rw n at (c .before .before .before .before .before .before .before .before .before .before .before .rows-of3 .ensures);
       };
-      across = rw (w, c .before .before .before .before .before .before .before .lay-out .ensures .0);
-      back = rw (w, c .before .before .before .before .before .before .before .lay-out .ensures .1);
+      across = rw (w, at-lay-out .lay-out .ensures .0);
+      back = rw (w, at-lay-out .lay-out .ensures .1);
       kind = refl;
       last = ap (λ k. k - 1) n;
-      tap = c .before .before .before .before .before .before .before .before .before .tap-row .ensures ∙ ap (λ k. cond (eqb (c .before .before .before .before .before .before .before .before .before .before .before .before .before .before .before .before .before .args .r .tap) 255) (k - 1) (c .before .before .before .before .before .before .before .before .before .before .before .before .before .before .before .before .before .args .r .tap)) n;
-      inside = rw n at (c .before .before .before .before .before .before .before .before .before .before .input-row .ensures .0);
-      input = c .before .before .before .before .before .before .before .before .before .before .input-row .ensures .1;
+      tap = c .before .before .before .before .before .before .before .before .before .tap-row .ensures ∙ ap (λ k. cond (eqb (start .args .r .tap) 255) (k - 1) (start .args .r .tap)) n;
+      inside = rw n at (at-input-row .input-row .ensures .0);
+      input = at-input-row .input-row .ensures .1;
     }
 
-loaded : (c : tie.After-load) → Loaded (c .before .before .before .before .before .before .before .before .before .before .before .before .before .before .before .before .before .args .r) (c .before .before .before .before .before .before .before .before .before .before .before .before .before .before .before .before .before .args .state .waves) (c .load .result)
+loaded : (c : tie.After-load) → let start = c .before .before .before .before .before .before .before .before .before .before .before .before .before .before .before .before .before in
+    Loaded (start .args .r) (start .args .state .waves) (c .load .result)
 loaded c = Loading.loaded (c .before .before .before .before .before .before .before .before .before .before .before .before .before .before .before .before .before .pre) (c .load .result) (c .load .ensures)
 
 samples-requires : tie.Need-samples-requires
 samples-requires c κs =
-    (record { circuit = c .before .before .before .before .before .before .before .before .before .before .before .before .before .before .before .before .before .before .before .before .before .before .before .before .before .args .r; stored = c .before .before .before .before .before .before .before .before .before .before .before .before .before .before .before .before .before .before .before .before .before .before .before .before .before .args .state .waves; fixed = fixed (c .before .before .before .before .before .before .before .before); loaded = loaded (c .before .before .before .before .before .before .before .before); room = refl }, Loading.equal (c .before .before .before .before .before .before .before .before .before .before .before .before .before .before .before .before .before .before .before .before .before .before .before .before .before .pre))
+    let start = c .before .before .before .before .before .before .before .before .before .before .before .before .before .before .before .before .before .before .before .before .before .before .before .before .before in
+    let at-load = c .before .before .before .before .before .before .before .before in
+    (record { circuit = start .args .r; stored = start .args .state .waves; fixed = fixed at-load; loaded = loaded at-load; room = refl }, Loading.equal (start .pre))
 
 -- what the samples come to
 abbrev Played : (c : tie.After-samples) → List ℤ → Type 0
 Played c next =
-    (ran (call (c .before .before .before .before .before .before .before .before .before .before .before .before .before .before .before .before .before .before .before .before .before .before .before .before .before .before .args .r) (c .before .before .before .before .before .before .before .before .before .before .before .before .before .before .before .before .before .before .before .before .before .before .before .before .before .before .args .state .waves) (c .before .before .before .before .before .before .before .before .before .before .before .before .before .before .before .before .before .before .before .before .before .before .before .before .before .before .args .input .now) (c .before .before .before .before .before .before .before .before .before .before .before .before .before .before .before .before .before .before .before .before .before .before .before .before .before .before .args .output .now))
+    let start = c .before .before .before .before .before .before .before .before .before .before .before .before .before .before .before .before .before .before .before .before .before .before .before .before .before .before in
+    (ran (call (start .args .r) (start .args .state .waves) (start .args .input .now) (start .args .output .now))
     ≡ report (c .samples .result) next (c .samples .last .1 .1 .1 .1 .1 .1 .1 .1 .1 .0))
-    × Loaded (c .before .before .before .before .before .before .before .before .before .before .before .before .before .before .before .before .before .before .before .before .before .before .before .before .before .before .args .r) next (c .samples .last .1 .1 .1 .1 .1 .1 .1 .0)
+    × Loaded (start .args .r) next (c .samples .last .1 .1 .1 .1 .1 .1 .1 .0)
 
 played : (c : tie.After-samples) → (next : List ℤ) × Played c next
 played c =
-    let w = c .samples .ensures .plays (c .before .before .before .before .before .before .before .before .before .before .before .before .before .before .before .before .before .before .before .before .before .before .before .before .before .before .args .r) (c .before .before .before .before .before .before .before .before .before .before .before .before .before .before .before .before .before .before .before .before .before .before .before .before .before .before .args .state .waves) (fixed (c .before .before .before .before .before .before .before .before .before)) (loaded (c .before .before .before .before .before .before .before .before .before)) (c .before .before .before .before .before .before .before .before .before .before .before .before .before .before .before .before .before .before .before .before .before .before .before .before .before .before .pre .allowed) in
+    let start = c .before .before .before .before .before .before .before .before .before .before .before .before .before .before .before .before .before .before .before .before .before .before .before .before .before .before in
+    let at-load = c .before .before .before .before .before .before .before .before .before in
+    let w = c .samples .ensures .plays (start .args .r) (start .args .state .waves) (fixed at-load) (loaded at-load) (start .pre .allowed) in
     (w .0, (w .1, w .2))
 
 unload-requires : tie.Need-unload-requires
 unload-requires c κs =
+    let start = c .before .before .before .before .before .before .before .before .before .before .before .before .before .before .before .before .before .before .before .before .before .before .before .before .before .before .before in
     let w = played (c .before) in
-    let r = c .before .before .before .before .before .before .before .before .before .before .before .before .before .before .before .before .before .before .before .before .before .before .before .before .before .before .before .args .r in
-    let a = acc (c .before .before .before .before .before .before .before .before .before .before .before .before .before .before .before .before .before .before .before .before .before .before .before .before .before .before .before) in
+    let r = start .args .r in
+    let a = acc start in
     λ j l. rw (Loading.taken r a (w .0) _ (w .1 .1) j l) (Loading.limited r a (w .0) _ (w .1 .1) j l)
 
 same-length : tie.Need-same-length
@@ -152,8 +165,9 @@ same-length c = search needs
 
 returns : tie.Need-returns
 returns c =
+    let start = c .before .before .before .before .before .before .before .before .before .before .before .before .before .before .before .before .before .before .before .before .before .before .before .before .before .before .before .before in
     let w = played (c .before .before) in
-    let same : c .unload .result .waves ≡ w .0 = Loading.all-taken (c .before .before .before .before .before .before .before .before .before .before .before .before .before .before .before .before .before .before .before .before .before .before .before .before .before .before .before .before .args .r) (acc (c .before .before .before .before .before .before .before .before .before .before .before .before .before .before .before .before .before .before .before .before .before .before .before .before .before .before .before .before)) (w .0) _ (w .1 .1) (c .unload .result .waves) (c .unload .ensures) in
+    let same : c .unload .result .waves ≡ w .0 = Loading.all-taken (start .args .r) (acc start) (w .0) _ (w .1 .1) (c .unload .result .waves) (c .unload .ensures) in
     w .1 .0 ∙ rw same
 
 pub play-spec : {M : Type 1} → statement M

@@ -1,23 +1,20 @@
 -- `samples` meets its contract. The loop's invariant: for every circuit that the lists are laid out for, the first i samples are done and the
 -- waves after them are loaded.
-use Prim.Native.Nat.{ℕ, _+_, _-_, _*_, _^_, _≤_, _<_}
+use Prim.Native.Nat.{ℕ, _-_, _*_, _^_, _≤_, _<_}
 use native.Mathlib.Omega.{arith}
-use mathlib.Core.Path.{_≡_, refl, sym, ap, _∙_, subst}
+use mathlib.Core.Path.{_≡_, refl, _∙_}
 use mathlib.Core.List.{List}
-use lib.IntN.{ℤ, pos}
-use lib.ListN.{getD, set, length, length-set}
+use lib.IntN.{ℤ}
+use lib.ListN.{length, length-set}
 use mir.Syntax.{w32}
 use mir.Val.{SFits}
 use mir.Facts.{toZ-ofZ}
 use borrow.Author.Needs.{needs}
 use Rattle.circuit.specs.Numbers.{handed}
-use Rattle.circuit.specs.Sample.{sampled, refused, finished}
 use Rattle.circuit.specs.declared.Record.{Record}
 use Rattle.circuit.specs.Run.{call}
 use Rattle.laws.proofs.Running.{Midway, midway-start, midway-step, midway-refused, midway-done}
 use Rattle.engine.specs.declared.plan.Shape.{Shape}
-use Rattle.engine.specs.declared.sample.Outcome.{Outcome}
-use Rattle.engine.specs.declared.sample.Outcome.the-variants.{Loud, Over, Finished}
 use Rattle.engine.specs.Sweep.{waveAt}
 use Rattle.engine.specs.Sample.{Fixed, Loaded, Works}
 use Rattle.engine.proofs.play.samples.Statement.{statement}
@@ -63,9 +60,10 @@ sample-requires c κs =
 
 -- what this turn's sample comes to
 worked : (c : tie.After-sample Inv-loop μ-loop) (r : Record) (ws : List ℤ)
-    → Fixed (c .before .before .before .before .before .before .args .shape) (c .before .before .before .before .before .before .args .words .now) (c .before .before .before .before .before .before .args .adaptors .now) (c .before .before .before .before .before .before .args .leaves .now) (c .before .before .before .before .before .before .args .reactive .now) (c .before .before .before .before .before .before .args .xs .now) (c .before .before .before .before .before .before .args .ys .now) r
-    → Loaded r ws (c .before .before .before .before .before .loop .up)
-    → Works r ws (waveAt (c .before .before .before .before .before .before .args .input .now) (c .before .before .before .before .before .loop .i)) (c .sample .result) (c .sample .last .1 .1 .1 .1 .1 .1 .1 .0)
+    → let start = c .before .before .before .before .before .before in let at-loop = c .before .before .before .before .before in
+    Fixed (start .args .shape) (start .args .words .now) (start .args .adaptors .now) (start .args .leaves .now) (start .args .reactive .now) (start .args .xs .now) (start .args .ys .now) r
+    → Loaded r ws (at-loop .loop .up)
+    → Works r ws (waveAt (start .args .input .now) (at-loop .loop .i)) (c .sample .result) (c .sample .last .1 .1 .1 .1 .1 .1 .1 .0)
 worked c r ws f l =
     let fits : SFits w32 (waveAt (c .before .before .before .before .before .before .args .input .now) (c .before .before .before .before .before .loop .i)) = record { sfits = c .before .before .before .x .given } in
     rw (toZ-ofZ fits) at (c .sample .ensures .works r ws f l)
@@ -118,18 +116,21 @@ loop-less c = omega arith
 loop-again : tie.Need-loop-again Inv-loop μ-loop
 unfolding Works
 loop-again c =
+    let start = c .before .before .before .before .before .before .before .before .before .before in
+    let at-loop = c .before .before .before .before .before .before .before .before .before in
     let v = c .before .before .outcome .given .0 .0 .0 in
     let fits : SFits w32 v = record { sfits = c .struct-told .given .0 .1 } in
-    let less : c .before .before .before .before .before .before .before .before .before .loop .i < length (c .before .before .before .before .before .before .before .before .before .before .args .output .now) = omega (arith, c .before .before .before .before .before .before .before .before .before .before .pre .1) in
+    let inside : at-loop .loop .i < length (start .args .input .now) = c .before .before .before .before .before .before .before .before .loop-test .taken in
+    let less : at-loop .loop .i < length (start .args .output .now) = omega (arith, start .pre .1) in
     rw (toZ-ofZ fits)
     (record {
       at = omega arith;
       room = c .before .before .before .before .sample .ensures .room;
-      size = length-set (c .before .before .before .before .before .before .before .before .before .loop .output) (c .before .before .before .before .before .before .before .before .before .loop .i) v ∙ c .before .before .before .before .before .before .before .before .before .loop .inv .size;
+      size = length-set (at-loop .loop .output) (at-loop .loop .i) v ∙ at-loop .loop .inv .size;
       going = λ r ws f l.
-          let g = c .before .before .before .before .before .before .before .before .before .loop .inv .going r ws f l in
+          let g = at-loop .loop .inv .going r ws f l in
           let w = rw (c .before .before .outcome .given .1) at (worked (c .before .before .before .before) r (g .0) f (g .2)) in
-          (w .0, midway-step (g .1) (c .before .before .before .before .before .before .before .before .loop-test .taken) less v (w .0) (w .1), w .2);
+          (w .0, midway-step (g .1) inside less v (w .0) (w .1), w .2);
     })
 
 same-length-3 : tie.Need-same-length-3 Inv-loop μ-loop

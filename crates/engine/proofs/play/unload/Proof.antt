@@ -1,9 +1,9 @@
 -- `unload` meets its contract. The loop's invariant: the stored waves of the rows below i are taken out.
-use Prim.Native.Nat.{ℕ, _+_, _-_, _≤_, _<_}
+use Prim.Native.Nat.{ℕ, _-_, _≤_, _<_}
 use native.Mathlib.Omega.{arith}
-use mathlib.Core.Path.{_≡_, refl, sym, _∙_}
-use lib.ListN.{getD, length, length-set}
-use lib.IntN.{ℤ, pos}
+use mathlib.Core.Path.{_≡_, refl, _∙_}
+use lib.ListN.{length, length-set}
+use lib.IntN.{pos}
 use mir.Syntax.{w32, w64}
 use mir.Val.{SFits}
 use mir.Facts.{toZ-ofZ}
@@ -43,7 +43,8 @@ part-taken-requires : tie.Need-part-taken-requires Inv-loop μ-loop
 part-taken-requires c κs = tt
 
 -- the wave that is taken out, and its limit
-taken : (c : tie.After-part-taken Inv-loop μ-loop) → c .part-taken .result .0 ≡ partTaken (partIn (c .before .before .before .before .before .args .t1) (c .before .before .before .before .loop .i)) (waveAt (c .before .before .before .before .before .args .t2) (c .before .before .before .before .loop .i))
+taken : (c : tie.After-part-taken Inv-loop μ-loop) → let start = c .before .before .before .before .before in
+    c .part-taken .result .0 ≡ partTaken (partIn (start .args .t1) (c .before .before .before .before .loop .i)) (waveAt (start .args .t2) (c .before .before .before .before .loop .i))
 taken c =
     let sent : SFits w64 (waveAt (c .before .before .before .before .before .args .t2) (c .before .before .before .before .loop .i)) = record { sfits = c .before .t19 .given } in
     rw (toZ-ofZ sent) at (c .part-taken .ensures)
@@ -71,14 +72,16 @@ loop-less c = omega arith
 
 loop-again : tie.Need-loop-again Inv-loop μ-loop
 loop-again c =
-    let ws = c .before .before .before .before .before .before .loop .state .waves in
-    let i = c .before .before .before .before .before .before .loop .i in
+    let start = c .before .before .before .before .before .before .before in
+    let at-loop = c .before .before .before .before .before .before in
+    let ws = at-loop .loop .state .waves in
+    let i = at-loop .loop .i in
     let v = c .before .before .part-taken .result .0 in
-    let size : length ws ≡ 31 = c .before .before .before .before .before .before .loop .inv .1 in
+    let size : length ws ≡ 31 = at-loop .loop .inv .1 in
     rw (toZ-ofZ (wave-fits _ (limited (c .before .before))), toZ-ofZ (short (c .before .before))) (
       omega arith,
       length-set ws i v ∙ size,
-      filled-more (λ j z. z ≡ partTaken (partIn (c .before .before .before .before .before .before .before .args .t1) j) (waveAt (c .before .before .before .before .before .before .before .args .t2) j)) (pos 0) ws i v (omega arith) (c .before .before .before .before .before .before .loop .inv .2) (taken (c .before .before)),
+      filled-more (λ j z. z ≡ partTaken (partIn (start .args .t1) j) (waveAt (start .args .t2) j)) (pos 0) ws i v (omega arith) (at-loop .loop .inv .2) (taken (c .before .before)),
     )
 
 returns : tie.Need-returns Inv-loop μ-loop

@@ -1,8 +1,8 @@
 -- `any_over` meets its contract. The loop's invariant: no leaf of the first k has a wave over its limit.
-use Prim.Native.Nat.{ℕ, _+_, _-_, _≤_, _<_}
+use Prim.Native.Nat.{ℕ, _-_, _≤_, _<_}
 use native.Mathlib.Omega.{arith}
 use mathlib.Core.Path.{_≡_, refl, sym, _∙_}
-use mathlib.Core.Bool.{Bool, true, false, not}
+use mathlib.Core.Bool.{Bool, false, not}
 use mathlib.Core.List.{List}
 use lib.ListN.{getD}
 use lib.IntN.{ℤ}
@@ -48,14 +48,16 @@ over-requires : tie.Need-over-requires Inv-loop μ-loop
 over-requires c κs = tt
 
 -- what the test of this turn finds
-tested : (c : tie.After-over Inv-loop μ-loop) → c .over .result ≡ Over (c .before .before .before .before .before .before .args .leaves .now) (c .before .before .before .before .before .before .args .down .now) (c .before .before .before .before .before .loop .k)
+tested : (c : tie.After-over Inv-loop μ-loop) → let start = c .before .before .before .before .before .before in
+    c .over .result ≡ Over (start .args .leaves .now) (start .args .down .now) (c .before .before .before .before .before .loop .k)
 tested c =
     let fits : SFits w64 (waveAt (c .before .before .before .before .before .before .args .down .now) (c .before .before .wide .result)) = record { sfits = c .before .t14 .given } in
     c .over .ensures ∙ rw (toZ-ofZ fits, c .before .before .wide .ensures)
 
 returns : tie.Need-returns Inv-loop μ-loop
 returns c =
-    sym (Counting.some-true (Over (c .before .before .before .before .before .before .before .args .leaves .now) (c .before .before .before .before .before .before .before .args .down .now)) (c .before .before .before .before .before .before .before .args .m) (c .before .before .before .before .before .before .loop .k) (c .before .before .before .before .before .loop-test .taken)
+    let start = c .before .before .before .before .before .before .before in
+    sym (Counting.some-true (Over (start .args .leaves .now) (start .args .down .now)) (start .args .m) (c .before .before .before .before .before .before .loop .k) (c .before .before .before .before .before .loop-test .taken)
     (sym (tested (c .before)) ∙ c .if1 .taken))
 
 add-k : tie.Need-add-k Inv-loop μ-loop
@@ -65,11 +67,13 @@ loop-less : tie.Need-loop-less Inv-loop μ-loop
 loop-less c = omega arith
 
 loop-again : tie.Need-loop-again Inv-loop μ-loop
-loop-again c = (
-  omega arith,
-  Counting.some-step (Over (c .before .before .before .before .before .before .before .args .leaves .now) (c .before .before .before .before .before .before .before .args .down .now)) (c .before .before .before .before .before .before .loop .k)
-      ∙ rw (c .before .before .before .before .before .before .loop .inv .1, ← tested (c .before), c .if1 .left),
-)
+loop-again c =
+    let start = c .before .before .before .before .before .before .before in
+    let at-loop = c .before .before .before .before .before .before in (
+      omega arith,
+      Counting.some-step (Over (start .args .leaves .now) (start .args .down .now)) (at-loop .loop .k)
+          ∙ rw (at-loop .loop .inv .1, ← tested (c .before), c .if1 .left),
+    )
 
 returns-2 : tie.Need-returns-2 Inv-loop μ-loop
 returns-2 c =

@@ -1,5 +1,4 @@
 -- `loud` meets its contract.
-use mathlib.Core.Path.{_≡_}
 use mir.Facts.{toZ-ofZ}
 use Rattle.engine.proofs.Limits.{outside}
 use Rattle.engine.proofs.sample.loud.Statement.{statement}

@@ -1,5 +1,4 @@
 -- `over` meets its contract.
-use mathlib.Core.Path.{_≡_}
 use mir.Facts.{toZ-ofZ}
 use mir.Syntax.{w64}
 use mir.Val.{SFits}

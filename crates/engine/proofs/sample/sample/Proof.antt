@@ -1,13 +1,13 @@
 -- `sample` meets its contract. Each way out is one of the definition's outcomes for every circuit that the lists are laid out for; the calls
 -- ask what holds for the one that is known to be there.
-use Prim.Native.Nat.{ℕ, _<_, _≤_}
+use Prim.Native.Nat.{_<_, _≤_}
 use native.Mathlib.Omega.{arith}
-use mathlib.Core.Path.{_≡_, refl, sym, ap, _∙_, subst}
+use mathlib.Core.Path.{_≡_, sym, ap, _∙_, subst}
 use mathlib.Core.Bool.{true, false, not}
 use mathlib.Core.List.{List}
-use lib.IntN.{ℤ, pos, natAbs}
-use lib.ListN.{getD, set, length, length-set}
-use mir.Syntax.{w32, w64}
+use lib.IntN.{ℤ, natAbs}
+use lib.ListN.{getD, set}
+use mir.Syntax.{w64}
 use mir.Val.{SFits, toZ, ofZ}
 use mir.Facts.{toZ-ofZ}
 use borrow.Author.Needs.{needs}
@@ -17,7 +17,6 @@ use Rattle.circuit.specs.Record.{sourceLimit, rowLimit}
 use Rattle.circuit.specs.Sample.{rounded, kept, output}
 use Rattle.circuit.specs.Curve.{waveLimit, reflected}
 use Rattle.circuit.specs.declared.Record.{Record}
-use Rattle.engine.specs.Curve.{Laid, Starts}
 use Rattle.engine.specs.Sweep.{waveAt, climbed, dropped}
 use Rattle.engine.specs.Sample.{Fixed, Loaded, Works}
 use Rattle.engine.proofs.Wide.{widened, wide-same}
@@ -74,24 +73,29 @@ over-requires : tie.Need-over-requires
 over-requires c κs = search needs
 
 -- the top's wave, and what its test finds
-risen : (c : tie.After-t28) → toZ w64 (ofZ w64 (waveAt (c .before .sweep-up .last .1 .1 .1 .0) (c .before .before .before .before .before .args .shape .last))) ≡ waveAt (above (c .before .before .before .before .before)) (c .before .before .before .before .before .args .shape .last)
+risen : (c : tie.After-t28) → let start = c .before .before .before .before .before in
+    toZ w64 (ofZ w64 (waveAt (c .before .sweep-up .last .1 .1 .1 .0) (start .args .shape .last))) ≡ waveAt (above start) (start .args .shape .last)
 risen c =
-    let fits : SFits w64 (waveAt (c .before .sweep-up .last .1 .1 .1 .0) (c .before .before .before .before .before .args .shape .last)) = record { sfits = c .t28 .given } in
-    toZ-ofZ fits ∙ ap (λ l. waveAt l (c .before .before .before .before .before .args .shape .last)) (climbs (c .before))
+    let start = c .before .before .before .before .before in
+    let fits : SFits w64 (waveAt (c .before .sweep-up .last .1 .1 .1 .0) (start .args .shape .last)) = record { sfits = c .t28 .given } in
+    toZ-ofZ fits ∙ ap (λ l. waveAt l (start .args .shape .last)) (climbs (c .before))
 
 returns-2 : tie.Need-returns-2
 unfolding Works
 returns-2 c =
-    let over : within waveLimit (waveAt (above (c .before .before .before .before .before .before .before)) (c .before .before .before .before .before .before .before .args .shape .last)) ≡ false = not-true _ (sym (rw (risen (c .before .before)) at (c .before .over .ensures)) ∙ c .if2 .taken) in
+    let start = c .before .before .before .before .before .before .before in
+    let at-else1 = c .before .before .before .before .before in
+    let over : within waveLimit (waveAt (above start) (start .args .shape .last)) ≡ false = not-true _ (sym (rw (risen (c .before .before)) at (c .before .over .ensures)) ∙ c .if2 .taken) in
     record {
       works = λ r ws f l. (
-        Sampling.refuses-top f l (c .before .before .before .before .before .before .before .args .x) (quiet (c .before .before .before .before .before)) over,
-        subst (Loaded r ws) (sym (climbs (c .before .before .before))) (Sampling.loaded-still f l (c .before .before .before .before .before .before .before .args .x) (quiet (c .before .before .before .before .before))),
+        Sampling.refuses-top f l (start .args .x) (quiet at-else1) over,
+        subst (Loaded r ws) (sym (climbs (c .before .before .before))) (Sampling.loaded-still f l (start .args .x) (quiet at-else1)),
       );
-      room = c .before .before .before .before .before .before .before .pre .room;
+      room = start .pre .room;
     }
 
-calm : (c : tie.Else2) → within waveLimit (waveAt (above (c .before .before .before .before .before .before .before)) (c .before .before .before .before .before .before .before .args .shape .last)) ≡ true
+calm : (c : tie.Else2) → let start = c .before .before .before .before .before .before .before in
+    within waveLimit (waveAt (above start) (start .args .shape .last)) ≡ true
 calm c = not-false _ (sym (rw (risen (c .before .before)) at (c .before .over .ensures)) ∙ c .if2 .left)
 
 reflect-requires : tie.Need-reflect-requires
@@ -101,11 +105,13 @@ reflect-requires c κs =
     (rw (f .across, f .back) (laid drawn), (rw (risen (c .before .before)) (within-abs waveLimit _ (calm c)), rw (f .kind, f .across) (laid-starts drawn)))
 
 -- the diode's answer, for any circuit
-answered : (c : tie.After-reflect) (r : Record) → Circuit (c .before .before .before .before .before .before .before .before) r
-    → (c .reflect .result .0 ≡ reflected r (waveAt (above (c .before .before .before .before .before .before .before .before)) (c .before .before .before .before .before .before .before .before .args .shape .last)))
-    × (natAbs (c .reflect .result .0) ≤ natAbs (waveAt (above (c .before .before .before .before .before .before .before .before)) (c .before .before .before .before .before .before .before .before .args .shape .last)))
+answered : (c : tie.After-reflect) (r : Record) → let start = c .before .before .before .before .before .before .before .before in
+    Circuit start r
+    → (c .reflect .result .0 ≡ reflected r (waveAt (above start) (start .args .shape .last)))
+    × (natAbs (c .reflect .result .0) ≤ natAbs (waveAt (above start) (start .args .shape .last)))
 answered c r f =
-    laid-reflects (f .accepted .drawn) (waveAt (above (c .before .before .before .before .before .before .before .before)) (c .before .before .before .before .before .before .before .before .args .shape .last)) (rw (risen (c .before .before .before), f .kind, f .across, f .back) at (c .reflect .ensures))
+    let start = c .before .before .before .before .before .before .before .before in
+    laid-reflects (f .accepted .drawn) (waveAt (above start) (start .args .shape .last)) (rw (risen (c .before .before .before), f .kind, f .across, f .back) at (c .reflect .ensures))
 
 mul-top : tie.Need-mul-top
 mul-top c = search needs
@@ -141,12 +147,14 @@ any-over-requires c κs =
     (omega (arith, size-most (f .planned .leaves)), λ k l. let w = place (f .planned .leaves) k l in rw (w .listed) (omega (arith, w .inside)))
 
 -- the test of the leaves' waves
-tested : (c : tie.After-any-over) → c .any-over .result ≡ some (λ k. not (within waveLimit (waveAt (below (c .before .before .before .before .before .before .before .before .before .before .before .before .before .before) (c .before .before .before .before .before .before .reflect .result .0)) (getD (c .before .before .before .before .before .before .before .before .before .before .before .before .before .before .args .leaves .now) k 0)))) (c .before .before .before .before .before .before .before .before .before .before .before .before .before .before .args .shape .leaves)
+tested : (c : tie.After-any-over) → let start = c .before .before .before .before .before .before .before .before .before .before .before .before .before .before in
+    c .any-over .result ≡ some (λ k. not (within waveLimit (waveAt (below start (c .before .before .before .before .before .before .reflect .result .0)) (getD (start .args .leaves .now) k 0)))) (start .args .shape .leaves)
 tested c = rw (drops (c .before .before)) at (c .any-over .ensures)
 
 returns-3 : tie.Need-returns-3
 unfolding Works
 returns-3 c =
+    let at-else2 = c .before .before .before .before .before .before .before .before in
     let s = c .before .before .before .before .before .before .before .before .before .before .before .before .before .before .before in
     let q = quiet (c .before .before .before .before .before .before .before .before .before .before .before .before .before) in
     let a = c .before .before .before .before .before .before .before in
@@ -155,15 +163,16 @@ returns-3 c =
     record {
       works = λ r ws f l.
           let ans = answered a r f in (
-            Sampling.refuses-leaf f l (s .args .x) q (calm (c .before .before .before .before .before .before .before .before)) (a .reflect .result .0) (ans .0) (ans .1) (s .args .down .now) (s .pre .room) over,
+            Sampling.refuses-leaf f l (s .args .x) q (calm at-else2) (a .reflect .result .0) (ans .0) (ans .1) (s .args .down .now) (s .pre .room) over,
             subst (Loaded r ws) (sym (climbs (c .before .before .before .before .before .before .before .before .before .before .before))) (Sampling.loaded-still f l (s .args .x) q),
           );
-      room = rw (drops (c .before .before .before)) (Sampling.below-long (s .pre .fixed) (s .pre .loaded) (s .args .x) q (calm (c .before .before .before .before .before .before .before .before)) (a .reflect .result .0) (own .0) (own .1) (s .args .down .now) (s .pre .room));
+      room = rw (drops (c .before .before .before)) (Sampling.below-long (s .pre .fixed) (s .pre .loaded) (s .args .x) q (calm at-else2) (a .reflect .result .0) (own .0) (own .1) (s .args .down .now) (s .pre .room));
     }
 
 -- from here on the sample is in its limits
-swept : (c : tie.Else3) (r : Record) (ws : List ℤ) → Circuit (c .before .before .before .before .before .before .before .before .before .before .before .before .before .before .before) r → Loaded r ws (c .before .before .before .before .before .before .before .before .before .before .before .before .before .before .before .args .up .now)
-    → Finishing.Swept r ws (c .before .before .before .before .before .before .before .before .before .before .before .before .before .before .before .args .x) (above (c .before .before .before .before .before .before .before .before .before .before .before .before .before .before .before)) (below (c .before .before .before .before .before .before .before .before .before .before .before .before .before .before .before) (c .before .before .before .before .before .before .before .reflect .result .0))
+swept : (c : tie.Else3) (r : Record) (ws : List ℤ) → let start = c .before .before .before .before .before .before .before .before .before .before .before .before .before .before .before in
+    Circuit start r → Loaded r ws (start .args .up .now)
+    → Finishing.Swept r ws (start .args .x) (above start) (below start (c .before .before .before .before .before .before .before .reflect .result .0))
 swept c r ws f l =
     let s = c .before .before .before .before .before .before .before .before .before .before .before .before .before .before .before in
     let a = c .before .before .before .before .before .before .before in
@@ -186,15 +195,21 @@ element-copy-out-t42 : tie.Need-element-copy-out-t42
 element-copy-out-t42 c = tap-inside (c .before)
 
 -- the two waves that the tap reads
-sent-there : (c : tie.After-t42) → toZ w64 (ofZ w64 (waveAt (c .before .before .before .before .before .before .before .before .before .before .before .before .before .sweep-up .last .1 .1 .1 .0) (c .before .before .before .before .before .before .before .before .before .before .before .before .before .before .before .before .before .args .shape .tap))) ≡ waveAt (above (c .before .before .before .before .before .before .before .before .before .before .before .before .before .before .before .before .before)) (c .before .before .before .before .before .before .before .before .before .before .before .before .before .before .before .before .before .args .shape .tap)
+sent-there : (c : tie.After-t42) → let start = c .before .before .before .before .before .before .before .before .before .before .before .before .before .before .before .before .before in
+    toZ w64 (ofZ w64 (waveAt (c .before .before .before .before .before .before .before .before .before .before .before .before .before .sweep-up .last .1 .1 .1 .0) (start .args .shape .tap))) ≡ waveAt (above start) (start .args .shape .tap)
 sent-there c =
-    let fits : SFits w64 (waveAt (c .before .before .before .before .before .before .before .before .before .before .before .before .before .sweep-up .last .1 .1 .1 .0) (c .before .before .before .before .before .before .before .before .before .before .before .before .before .before .before .before .before .args .shape .tap)) = record { sfits = c .before .t282 .given } in
-    toZ-ofZ fits ∙ ap (λ l. waveAt l (c .before .before .before .before .before .before .before .before .before .before .before .before .before .before .before .before .before .args .shape .tap)) (climbs (c .before .before .before .before .before .before .before .before .before .before .before .before .before))
+    let start = c .before .before .before .before .before .before .before .before .before .before .before .before .before .before .before .before .before in
+    let at-sweep-up = c .before .before .before .before .before .before .before .before .before .before .before .before .before in
+    let fits : SFits w64 (waveAt (at-sweep-up .sweep-up .last .1 .1 .1 .0) (start .args .shape .tap)) = record { sfits = c .before .t282 .given } in
+    toZ-ofZ fits ∙ ap (λ l. waveAt l (start .args .shape .tap)) (climbs at-sweep-up)
 
-arrived-there : (c : tie.After-t42) → toZ w64 (ofZ w64 (waveAt (c .before .before .before .before .before .sweep-down .last .1 .1 .1 .1 .0) (c .before .before .before .before .before .before .before .before .before .before .before .before .before .before .before .before .before .args .shape .tap))) ≡ waveAt (below (c .before .before .before .before .before .before .before .before .before .before .before .before .before .before .before .before .before) (c .before .before .before .before .before .before .before .before .before .reflect .result .0)) (c .before .before .before .before .before .before .before .before .before .before .before .before .before .before .before .before .before .args .shape .tap)
+arrived-there : (c : tie.After-t42) → let start = c .before .before .before .before .before .before .before .before .before .before .before .before .before .before .before .before .before in
+    toZ w64 (ofZ w64 (waveAt (c .before .before .before .before .before .sweep-down .last .1 .1 .1 .1 .0) (start .args .shape .tap))) ≡ waveAt (below start (c .before .before .before .before .before .before .before .before .before .reflect .result .0)) (start .args .shape .tap)
 arrived-there c =
-    let fits : SFits w64 (waveAt (c .before .before .before .before .before .sweep-down .last .1 .1 .1 .1 .0) (c .before .before .before .before .before .before .before .before .before .before .before .before .before .before .before .before .before .args .shape .tap)) = record { sfits = c .t42 .given } in
-    toZ-ofZ fits ∙ ap (λ l. waveAt l (c .before .before .before .before .before .before .before .before .before .before .before .before .before .before .before .before .before .args .shape .tap)) (drops (c .before .before .before .before .before))
+    let start = c .before .before .before .before .before .before .before .before .before .before .before .before .before .before .before .before .before in
+    let at-sweep-down = c .before .before .before .before .before in
+    let fits : SFits w64 (waveAt (at-sweep-down .sweep-down .last .1 .1 .1 .1 .0) (start .args .shape .tap)) = record { sfits = c .t42 .given } in
+    toZ-ofZ fits ∙ ap (λ l. waveAt l (start .args .shape .tap)) (drops at-sweep-down)
 
 tapped-requires : tie.Need-tapped-requires
 tapped-requires c κs =
@@ -211,6 +226,9 @@ store-requires c κs =
 returns-4 : tie.Need-returns-4
 unfolding Works
 returns-4 c =
+    let at-else2 = c .before .before .before .before .before .before .before .before .before .before .before .before .before .before in
+    let at-sweep-down = c .before .before .before .before .before .before .before .before .before in
+    let at-else3 = c .before .before .before .before .before .before in
     let s = c .before .before .before .before .before .before .before .before .before .before .before .before .before .before .before .before .before .before .before .before .before in
     let q = quiet (c .before .before .before .before .before .before .before .before .before .before .before .before .before .before .before .before .before .before .before) in
     let a = c .before .before .before .before .before .before .before .before .before .before .before .before .before in
@@ -218,16 +236,16 @@ returns-4 c =
     record {
       works = λ r ws f l.
           let ans = answered a r f in
-          let w = swept (c .before .before .before .before .before .before) r ws f l in
+          let w = swept at-else3 r ws f l in
           let read : c .before .before .before .tapped .result .0 ≡ output (rounded r) r (waveAt ws) (s .args .x) =
           c .before .before .before .tapped .ensures ∙ rw (sent-there (c .before .before .before .before), arrived-there (c .before .before .before .before), f .tap) (Finishing.reads r ws (s .args .x) _ _ w) in
-          let done = Sampling.finishes f l (s .args .x) q (calm (c .before .before .before .before .before .before .before .before .before .before .before .before .before .before)) (a .reflect .result .0) (ans .0) (ans .1) (s .args .down .now) (s .pre .room) (sym (tested (c .before .before .before .before .before .before .before)) ∙ c .before .before .before .before .before .before .if3 .left) in (
+          let done = Sampling.finishes f l (s .args .x) q (calm at-else2) (a .reflect .result .0) (ans .0) (ans .1) (s .args .down .now) (s .pre .room) (sym (tested (c .before .before .before .before .before .before .before)) ∙ at-else3 .if3 .left) in (
             table (kept (rounded r) r (waveAt ws) (s .args .x)) rowLimit,
             rw read done,
-            rw (c .store .ensures, drops (c .before .before .before .before .before .before .before .before .before), climbs (c .before .before .before .before .before .before .before .before .before .before .before .before .before .before .before .before .before))
+            rw (c .store .ensures, drops at-sweep-down, climbs (c .before .before .before .before .before .before .before .before .before .before .before .before .before .before .before .before .before))
                 (Finishing.loaded-next r ws (s .args .x) _ _ w _ _ _ (f .planned .says) (f .planned .reactive) _ done),
           );
-      room = rw (drops (c .before .before .before .before .before .before .before .before .before)) (Sampling.below-long (s .pre .fixed) (s .pre .loaded) (s .args .x) q (calm (c .before .before .before .before .before .before .before .before .before .before .before .before .before .before)) (a .reflect .result .0) (own .0) (own .1) (s .args .down .now) (s .pre .room));
+      room = rw (drops at-sweep-down) (Sampling.below-long (s .pre .fixed) (s .pre .loaded) (s .args .x) q (calm at-else2) (a .reflect .result .0) (own .0) (own .1) (s .args .down .now) (s .pre .room));
     }
 
 pub sample-spec : {M : Type 1} → statement M

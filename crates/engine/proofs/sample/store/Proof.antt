@@ -1,5 +1,5 @@
 -- `store` meets its contract. The loop's invariant: the first k reactive rows hold what they keep.
-use Prim.Native.Nat.{_+_, _-_, _≤_, _<_}
+use Prim.Native.Nat.{_-_, _≤_, _<_}
 use native.Mathlib.Numerals.{add-one}
 use native.Mathlib.Omega.{arith}
 use mathlib.Core.Path.{_≡_, refl, _∙_}
@@ -63,7 +63,8 @@ loop-less c = omega arith
 
 -- what this turn stores
 kept : (c : tie.After-turned Inv-loop μ-loop)
-    → c .turned .result .0 ≡ turnedBy (getD (c .before .before .before .before .before .before .before .args .words .now) (c .before .before .before .wide .result) 0) (waveAt (c .before .before .before .before .before .before .before .args .down .now) (c .before .before .before .wide .result))
+    → let start = c .before .before .before .before .before .before .before in
+    c .turned .result .0 ≡ turnedBy (getD (start .args .words .now) (c .before .before .before .wide .result) 0) (waveAt (start .args .down .now) (c .before .before .before .wide .result))
 kept c = c .turned .ensures ∙ rw (toZ-ofZ (arrived (c .before)))
 
 loop-again : tie.Need-loop-again Inv-loop μ-loop

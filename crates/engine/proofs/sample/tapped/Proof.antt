@@ -1,5 +1,4 @@
 -- `tapped` meets its contract: the sum of two waves in their limit fits 32 bits.
-use mathlib.Core.Path.{_≡_}
 use mir.Facts.{toZ-ofZ}
 use Rattle.engine.proofs.Limits.{SumFits, sum-fits}
 use Rattle.engine.proofs.sample.tapped.Statement.{statement}

@@ -1,5 +1,4 @@
 -- `turned` meets its contract, at each outcome of its test.
-use mathlib.Core.Path.{_≡_, refl}
 use lib.IntN.{negℤ, +ℤ-idl}
 use mir.Facts.{toZ-ofZ}
 use borrow.Author.Tests.{eq-eqb, ne-eqb}

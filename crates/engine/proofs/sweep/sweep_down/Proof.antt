@@ -1,11 +1,11 @@
 -- `sweep_down` meets its contract. The loop's invariant: the k lowest adaptors are still to send, and will make of the waves what all make of
 -- those at the start.
-use Prim.Native.Nat.{ℕ, suc, _+_, _-_, _≤_, _<_}
+use Prim.Native.Nat.{ℕ, suc, _-_, _≤_, _<_}
 use native.Mathlib.Omega.{arith}
-use mathlib.Core.Path.{_≡_, refl, sym, ap, _∙_, subst}
+use mathlib.Core.Path.{_≡_, refl, sym, ap, _∙_}
 use mathlib.Core.List.{List}
 use lib.ListN.{getD, set}
-use lib.IntN.{ℤ, pos}
+use lib.IntN.{ℤ}
 use mir.Syntax.{w64}
 use mir.Val.{SFits}
 use mir.Facts.{toZ-ofZ}
@@ -128,8 +128,9 @@ loop-less c = omega arith
 
 -- what this turn stores
 stored : (c : tie.After-struct-told2 Inv-loop μ-loop)
-    → set (set (c .before .before .before .before .before .before .before .before .before .before .before .before .before .before .loop .down) (c .before .before .before .before .before .before .before .before .before .unpack .result .first) (c .before .before .before .before .sends-down .result .first .0)) (c .before .before .before .before .before .before .before .before .before .unpack .result .second) (c .before .before .before .before .sends-down .result .second .0)
-    ≡ lowered (linkAt (c .before .before .before .before .before .before .before .before .before .before .before .before .before .before .before .args .words .now) (getD (c .before .before .before .before .before .before .before .before .before .before .before .before .before .before .before .args .adaptors .now) (c .before .before .before .before .before .before .before .before .before .before .before .before .before .before .loop .k - 1) 0)) (getD (c .before .before .before .before .before .before .before .before .before .before .before .before .before .before .before .args .adaptors .now) (c .before .before .before .before .before .before .before .before .before .before .before .before .before .before .loop .k - 1) 0) (c .before .before .before .before .before .before .before .before .before .before .before .before .before .before .before .args .up .now) (c .before .before .before .before .before .before .before .before .before .before .before .before .before .before .loop .down)
+    → let start = c .before .before .before .before .before .before .before .before .before .before .before .before .before .before .before in let at-loop = c .before .before .before .before .before .before .before .before .before .before .before .before .before .before in let at-unpack = c .before .before .before .before .before .before .before .before .before in
+    set (set (at-loop .loop .down) (at-unpack .unpack .result .first) (c .before .before .before .before .sends-down .result .first .0)) (at-unpack .unpack .result .second) (c .before .before .before .before .sends-down .result .second .0)
+    ≡ lowered (linkAt (start .args .words .now) (getD (start .args .adaptors .now) (at-loop .loop .k - 1) 0)) (getD (start .args .adaptors .now) (at-loop .loop .k - 1) 0) (start .args .up .now) (at-loop .loop .down)
 unfolding lowered
 stored c =
     let w = c .before .before .before .before .before in
@@ -138,12 +139,14 @@ stored c =
 
 loop-again : tie.Need-loop-again Inv-loop μ-loop
 loop-again c =
+    let start = c .before .before .before .before .before .before .before .before .before .before .before .before .before .before .before in
+    let at-loop = c .before .before .before .before .before .before .before .before .before .before .before .before .before .before in
     let to-first : SFits w64 (c .before .before .before .before .sends-down .result .first .0) = record { sfits = c .before .struct-told .given .0 .1 } in
     let to-second : SFits w64 (c .before .before .before .before .sends-down .result .second .0) = record { sfits = c .struct-told2 .given .0 .1 } in
     rw (toZ-ofZ to-first, toZ-ofZ to-second) (
       omega arith,
       rw (stored c) (turn (c .before .before .before .before .before .before .before .before .before .before .before .before .before) .1),
-      rw (stored c) (c .before .before .before .before .before .before .before .before .before .before .before .before .before .before .loop .inv .2 ∙ dropped-next (c .before .before .before .before .before .before .before .before .before .before .before .before .before .before .before .args .words .now) (c .before .before .before .before .before .before .before .before .before .before .before .before .before .before .before .args .adaptors .now) (c .before .before .before .before .before .before .before .before .before .before .before .before .before .before .before .args .up .now) (c .before .before .before .before .before .before .before .before .before .before .before .before .before .before .loop .down) (place (c .before .before .before .before .before .before .before .before .before .before .before .before .before))),
+      rw (stored c) (at-loop .loop .inv .2 ∙ dropped-next (start .args .words .now) (start .args .adaptors .now) (start .args .up .now) (at-loop .loop .down) (place (c .before .before .before .before .before .before .before .before .before .before .before .before .before))),
     )
 
 returns : tie.Need-returns Inv-loop μ-loop

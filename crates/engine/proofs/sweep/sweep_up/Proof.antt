@@ -1,16 +1,13 @@
 -- `sweep_up` meets its contract. The loop's invariant: the waves are those after the first k adaptors.
-use Prim.Native.Nat.{_+_, _-_, _≤_, _<_}
+use Prim.Native.Nat.{_-_, _≤_, _<_}
 use native.Mathlib.Numerals.{add-one}
 use native.Mathlib.Omega.{arith}
-use mathlib.Core.Path.{_≡_, refl, sym, ap, _∙_, subst}
-use lib.ListN.{getD, set}
-use lib.IntN.{pos}
+use mathlib.Core.Path.{_≡_, refl, ap, _∙_}
+use lib.ListN.{set}
 use mir.Syntax.{w64}
 use mir.Val.{SFits}
 use mir.Facts.{toZ-ofZ}
-use Rattle.circuit.specs.Sample.{sendsUp}
-use Rattle.engine.specs.Wave.{counting}
-use Rattle.engine.specs.Sweep.{waveAt, raised, Raises, climbed, Climbs}
+use Rattle.engine.specs.Sweep.{waveAt, raised, Raises, climbed}
 use Rattle.engine.proofs.sweep.sweep_up.Statement.{statement}
 use Rattle.engine.proofs.sweep.sweep_up.Tie as tie
 
@@ -44,7 +41,9 @@ unpack-requires c κs = tt
 
 -- the adaptor of this turn, and the waves that reach it
 stage : (c : tie.After-unpack Inv-loop μ-loop) → Raises (c .unpack .result) (c .before .before .wide .result) (c .before .before .before .before .before .loop .up)
-stage c = rw (c .unpack .ensures, c .before .before .wide .ensures, c .before .before .before .before .before .loop .inv .1) (c .before .before .before .before .before .before .pre .each (c .before .before .before .before .before .loop .k) (c .before .before .before .before .loop-test .taken))
+stage c =
+    let at-loop = c .before .before .before .before .before in
+    rw (c .unpack .ensures, c .before .before .wide .ensures, at-loop .loop .inv .1) (c .before .before .before .before .before .before .pre .each (at-loop .loop .k) (c .before .before .before .before .loop-test .taken))
 
 mul-t17 : tie.Need-mul-t17 Inv-loop μ-loop
 mul-t17 c = omega (arith, stage c .first)
@@ -81,7 +80,8 @@ loop-less c = omega arith
 
 -- what this turn stores
 stored : (c : tie.After-struct-told Inv-loop μ-loop)
-    → set (c .before .before .before .before .before .before .before .before .before .loop .up) (c .before .before .before .before .before .before .wide .result) (c .before .sends-up .result .0) ≡ raised (c .before .before .before .before .unpack .result) (c .before .before .before .before .before .before .wide .result) (c .before .before .before .before .before .before .before .before .before .loop .up)
+    → let at-loop = c .before .before .before .before .before .before .before .before .before in let at-wide = c .before .before .before .before .before .before in
+    set (at-loop .loop .up) (at-wide .wide .result) (c .before .sends-up .result .0) ≡ raised (c .before .before .before .before .unpack .result) (at-wide .wide .result) (at-loop .loop .up)
 unfolding raised
 stored c =
     ap (set (c .before .before .before .before .before .before .before .before .before .loop .up) (c .before .before .before .before .before .before .wide .result))

@@ -1,12 +1,11 @@
 -- `sends_up` meets its contract, at each kind of adaptor.
-use mathlib.Core.Path.{_≡_, sym, ap, _∙_}
-use lib.IntN.{ℤ, pos, _-ℤ_, +ℤ-idl, negℤ, _+ℤ_}
+use mathlib.Core.Path.{_≡_, ap, _∙_}
+use lib.IntN.{_-ℤ_, _+ℤ_}
 use mir.Syntax.{w64}
-use mir.Val.{SFits, toZ, ofZ}
+use mir.Val.{SFits}
 use borrow.Author.Needs.{needs}
 use Rattle.whole.specs.Signed.{signed}
-use Rattle.circuit.specs.Sample.{h, sendsUp}
-use Rattle.engine.specs.Wave.{counting}
+use Rattle.circuit.specs.Sample.{h}
 use Rattle.engine.proofs.Range.{up-fits, series-up, parallel-up}
 use Rattle.engine.proofs.wave.sends_up.Statement.{statement}
 use Rattle.engine.proofs.wave.sends_up.Tie as tie
@@ -27,7 +26,9 @@ sub-part : tie.Need-sub-part
 sub-part c = let m = up-fits _ _ _ (c .before .before .before .before .before .before .pre) in search (needs, signed)
 
 part-requires : tie.Need-part-requires
-part-requires c κs = let m = up-fits _ _ _ (c .before .before .before .before .before .before .pre) in (c .before .before .before .before .before .before .pre .ratio, search (needs, signed))
+part-requires c κs =
+    let start = c .before .before .before .before .before .before in
+    let m = up-fits _ _ _ (start .pre) in (start .pre .ratio, search (needs, signed))
 
 add-t10 : tie.Need-add-t10
 add-t10 c =
