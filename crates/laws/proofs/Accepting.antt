@@ -14,7 +14,7 @@ use Rattle.circuit.specs.Sample.{holds}
 use Rattle.circuit.specs.declared.Part.{Part}
 use Rattle.circuit.specs.declared.Part.the-variants.{Blank, Leaf, Adaptor}
 use Rattle.circuit.specs.declared.Record.{Record}
-use Rattle.laws.specs.Accepted.{Sized, Lower, leaves, Accepted}
+use Rattle.laws.specs.Accepted.{Sized, Lower, Above, leaves, Accepted}
 use Rattle.laws.proofs.Counting as Counting
 use Rattle.laws.proofs.Judging.{Passed, done-passed}
 use Rattle.laws.proofs.Trees as Trees
@@ -65,6 +65,12 @@ module _ (r : Record) (s : Sized r) (h : Passed r) where
   ratio-of j (Leaf x) e f = let none = Trees.ratio-leaf r lower j (Trees.tree-leaf r lower j x e) in omega arith
   ratio-of j (Adaptor a) e f = leb-true _ _ (and-eq-true-iff (leb 1 (ratioAt r j)) _ .0 (not-false _ f) .1)
 
+  above : (j : ℕ) (p : Part) → ratioFault r j p ≡ false → Above (ratioAt r j) p
+  unfolding Above
+  above j Blank f = tt
+  above j (Leaf x) f = tt
+  above j (Adaptor a) f = leb-true 1 _ (and-eq-true-iff (leb 1 (ratioAt r j)) _ .0 (not-false _ f) .0)
+
   -- ---- the tree
 
   few : (j : ℕ) → j < r .count → leaves (treeAt r j) ≤ 31
@@ -102,6 +108,8 @@ module _ (r : Record) (s : Sized r) (h : Passed r) where
     sound = sound;
     resistance = resistances;
     ratio = λ j. ratio-of j (partAt r j) refl (no-fault j);
+    above = λ j. above j (partAt r j) (no-fault j);
+    leaved = Trees.leaves-adaptors (treeOf r);
     leafy = few;
     held = held;
     drawn = columns-drawn r s formed (h .columnRule);

@@ -8,7 +8,7 @@ use lib.Dec.{T}
 use lib.ListN.{length, getD, take}
 use lib.IntN.{pos, _-ℤ_, natAbs}
 use lib.Signed.{_<ℤ_}
-use Rattle.circuit.specs.Record.{partAt, isBlank, isLeaf, inputs, soundPart, Tree, leaf, adaptor, treeOf, treeAt, top}
+use Rattle.circuit.specs.Record.{partAt, isBlank, isLeaf, inputs, soundPart, Tree, leaf, adaptor, treeOf, treeAt, top, adaptors}
 use Rattle.circuit.specs.SetUp.{ratioAt, resistanceAt, inRange}
 use Rattle.circuit.specs.Sample.{holds}
 use Rattle.circuit.specs.declared.Part.{Part}
@@ -42,6 +42,12 @@ unfoldable pub Apart : Part → Type 0
 Apart Blank = Unit {0}
 Apart (Leaf e) = Unit {0}
 Apart (Adaptor a) = a .first ≡ a .second → ⊥
+
+-- an adaptor's ratio is above 0
+unfoldable pub Above : ℕ → Part → Type 0
+Above g Blank = Unit {0}
+Above g (Leaf e) = Unit {0}
+Above g (Adaptor a) = 0 < g
 
 -- how many leaves a tree has
 unfoldable pub leaves : Tree → ℕ
@@ -110,7 +116,9 @@ pub record Accepted (r : Record) : Type 0 where
   pub resistance : (j : ℕ) → j < r .count → T (inRange (resistanceAt r j))
   -- an adaptor's ratio is from 1 to 2^24 − 1, a leaf's is 0
   pub ratio : (j : ℕ) → ratioAt r j ≤ 16777215
-  -- no row's tree has more leaves than there are rows, and the top's holds every leaf
+  pub above : (j : ℕ) → Above (ratioAt r j) (partAt r j)
+  -- one leaf more than adaptors; no row's tree has more leaves than there are rows, and the top's holds every leaf
+  pub leaved : leaves (treeOf r) ≡ suc (adaptors (treeOf r))
   pub leafy : (j : ℕ) → j < r .count → leaves (treeAt r j) ≤ 31
   pub held : (j : ℕ) → T (isLeaf (partAt r j)) → T (holds (treeOf r) j)
   pub drawn : Drawn r
