@@ -1,25 +1,23 @@
 -- "Bench table": the cases marked M, one table under one statement, found by working out the definitions; and beside it the shortcuts of the
 -- old units, each at a case that tells it from the rule.
-use Prim.Native.Nat.{ℕ, zero, suc}
+use Prim.Native.Nat.{ℕ}
 use mathlib.Core.Path.{_≡_, refl}
 use mathlib.Core.List.{List, [], _∷_, _++_, map}
-use lib.ListN.{length, getD, replicate}
+use lib.ListN.{getD}
 use lib.IntN.{ℤ, pos, negsuc}
 use lib.Ieee.{Float, fin}
 use mathlib.Core.Bool.{false}
-use Rattle.whole.specs.Fraction.{Fraction, whole, over, _≈_}
+use Rattle.whole.specs.Fraction.{whole, over, _≈_}
 use native.Mathlib.Omega.{arith}
 use Rattle.circuit.specs.Numbers.{Report, report, done}
 use Rattle.circuit.specs.SetUp.{nothing, setUpReport, setUpRows, quotient}
 use Rattle.circuit.specs.Curve.{reflected}
 use Rattle.circuit.specs.Sample.{unrounded, output}
-use Rattle.circuit.specs.Run.{freshWaves, ran, Ran}
 use Rattle.circuit.specs.File.{bytes, checkOf, zeros}
 use Rattle.circuit.specs.Text.{text}
 use Rattle.circuit.specs.Listing.{acceptedLines}
-use Rattle.circuit.specs.declared.Join.the-variants.{Series, Parallel}
+use Rattle.circuit.specs.declared.Join.the-variants.{Parallel}
 use Rattle.circuit.specs.declared.CurveKind.the-variants.{Single, Pair}
-use Rattle.circuit.specs.declared.Prepared.{Prepared}
 use Rattle.circuit.specs.declared.Record.{Record}
 use Rattle.circuit.proofs.Working.{working}
 use Rattle.circuit.proofs.Circuits.{minus, ohms, column, case1, case6, case8, capacitive, curved, fresh}

@@ -1,5 +1,5 @@
 -- The bench's circuits, as records. Rows are numbered in the order named, and the first named is the first child.
-use Prim.Native.Nat.{ℕ, zero, suc, _-_}
+use Prim.Native.Nat.{ℕ, _-_}
 use mathlib.Core.Bool.{false}
 use mathlib.Core.List.{List, [], _∷_, _++_}
 use lib.ListN.{length, replicate}
@@ -7,7 +7,6 @@ use lib.IntN.{ℤ, pos, negsuc, negℤ}
 use lib.Ieee.{Float, fin, binary64, ofInt}
 use Rattle.circuit.specs.Record.{rowLimit, columnLimit}
 use Rattle.circuit.specs.Run.{Call, Ran, call, freshWaves, ran}
-use Rattle.circuit.specs.declared.Element.{Element}
 use Rattle.circuit.specs.declared.Element.the-variants.{Resistor, Capacitor, Inductor, Input, Steady}
 use Rattle.circuit.specs.declared.Join.{Join}
 use Rattle.circuit.specs.declared.Join.the-variants.{Series, Parallel}
@@ -16,7 +15,7 @@ use Rattle.circuit.specs.declared.Part.the-variants.{Blank, Leaf, Adapto
 use Rattle.circuit.specs.declared.Row.{Row}
 use Rattle.circuit.specs.declared.Column.{Column}
 use Rattle.circuit.specs.declared.CurveKind.{CurveKind}
-use Rattle.circuit.specs.declared.CurveKind.the-variants.{Unset, Single, Pair}
+use Rattle.circuit.specs.declared.CurveKind.the-variants.{Pair}
 use Rattle.circuit.specs.declared.Record.{Record}
 
 -- ---- numbers, parts and columns

@@ -4,7 +4,7 @@ use mathlib.Core.Path.{_≡_, refl}
 use mathlib.Core.Bool.{Bool, true, false}
 use mathlib.Core.List.{List, [], _∷_, _++_, map}
 use lib.ListN.{set}
-use lib.IntN.{ℤ, pos, negsuc, negℤ}
+use lib.IntN.{ℤ, pos, negsuc}
 use lib.Ieee.{Float, nan, inf, fin}
 use Rattle.circuit.specs.Numbers.{Report, report, done, fails}
 use Rattle.circuit.specs.SetUp.{setUpReport}
@@ -13,12 +13,10 @@ use Rattle.circuit.specs.File.{block, readReport, writeReport, clearRow,
 use Rattle.circuit.specs.declared.Join.the-variants.{Series, Parallel}
 use Rattle.circuit.specs.declared.Part.{Part}
 use Rattle.circuit.specs.declared.Part.the-variants.{Blank}
-use Rattle.circuit.specs.declared.Column.{Column}
-use Rattle.circuit.specs.declared.CurveKind.{CurveKind}
 use Rattle.circuit.specs.declared.CurveKind.the-variants.{Unset, Single, Pair}
 use Rattle.circuit.specs.declared.Record.{Record}
 use Rattle.circuit.proofs.Working.{working}
-use Rattle.circuit.proofs.Circuits.{minus, ohms, input, resistor, capacitor, inductor, steady, joins, column, circuit, curveK, case1, case8, curved, calling, fresh}
+use Rattle.circuit.proofs.Circuits.{minus, ohms, input, resistor, inductor, steady, joins, column, circuit, curveK, case1, case8, curved, calling, fresh}
 
 -- ---- changed records
 
