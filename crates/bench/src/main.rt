@@ -1,20 +1,20 @@
-// The bench: every case of the table, and both sides of each limit, a line each.
-mod cases;
+// The bench: the cases of the paper's table, both sides of each limit, and what a refusal leaves, through the functions that anyone can
+// call. A line says what a case hands back; the last line, how many cases agree with what they should be.
+mod expected;
 mod files;
-mod limits;
 mod make;
+mod runs;
+mod samples;
+mod set_ups;
 mod show;
+mod tally;
+mod work;
 
 fn main() {
-    cases::set_ups();
-    cases::samples();
-    cases::stored_waves();
-    cases::curves();
-    files::checks();
-    limits::rates();
-    limits::samples();
-    limits::counts();
-    limits::values();
-    limits::curves();
-    limits::runs();
+    let t = tally::none();
+    let t = set_ups::cases(t);
+    let t = samples::cases(t);
+    let t = runs::cases(t);
+    let t = files::cases(t);
+    tally::shown(t);
 }

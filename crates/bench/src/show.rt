@@ -2,6 +2,9 @@
 use circuit::Answer;
 use libc::STDOUT_FILENO;
 
+// What stands in an output before a run.
+pub const BEFORE: i32 = 77;
+
 pub fn text(t: &[u8]) {
     io::write_all(STDOUT_FILENO, t);
 }
@@ -10,7 +13,7 @@ pub fn number(n: u64) {
     io::print_decimal(STDOUT_FILENO, n);
 }
 
-pub fn signed(n: i32) {
+fn signed(n: i32) {
     if n < 0 {
         text(b"-");
         number((!n) as u64 + 1);
@@ -26,9 +29,14 @@ pub fn microvolts(n: i32) {
 }
 
 // An output: twice a voltage is the sum of two waves, so its unit is half a wave's.
-pub fn half_microvolts(n: i32) {
-    signed(n);
-    text(b" half microvolts");
+pub fn output(n: i32) {
+    if n == BEFORE {
+        text(b", output left");
+    } else {
+        text(b", output ");
+        signed(n);
+        text(b" half microvolts");
+    }
 }
 
 // Whole ohms; a resistance that is negative or no number has none.
@@ -41,7 +49,7 @@ pub fn ohms(x: f64) {
     }
 }
 
-pub fn outcome(a: Answer) {
+pub fn answer(a: Answer) {
     let n = answer::number(a);
     if n == 0 {
         text(b"done");

@@ -1,47 +1,58 @@
--- "Bench table": the cases marked M, one table under one statement, found by working out the definitions; and beside it the shortcuts of the
--- old units, each at a case that tells it from the rule.
+-- "Bench table": the cases marked M, one table under one statement, found by working out the definitions. Beside it the shortcuts of the old
+-- units, each at a case that tells it from the rule; a case for each operand of a sample that no marked case tells from another; and two
+-- listings, from a file's bytes.
 use Prim.Native.Nat.{ℕ}
 use mathlib.Core.Path.{_≡_, refl}
+use mathlib.Core.Bool.{Bool, true, false}
 use mathlib.Core.List.{List, [], _∷_, _++_, map}
-use lib.ListN.{getD}
-use lib.IntN.{ℤ, pos, negsuc}
+use lib.Dec.{eqb}
+use lib.ListN.{length, getD, set}
+use lib.IntN.{ℤ, pos, negsuc, _-ℤ_, _*ℤ_, natAbs}
 use lib.Ieee.{Float, fin}
-use mathlib.Core.Bool.{false}
-use Rattle.whole.specs.Fraction.{whole, over, _≈_}
-use native.Mathlib.Omega.{arith}
+use Rattle.whole.specs.Fraction.{Fraction, whole}
 use Rattle.circuit.specs.Numbers.{Report, report, done}
-use Rattle.circuit.specs.SetUp.{nothing, setUpReport, setUpRows, quotient}
-use Rattle.circuit.specs.Curve.{reflected}
+use Rattle.circuit.specs.SetUp.{nothing, setUpReport, setUpRows}
+use Rattle.circuit.specs.Curve.{line, reflected}
 use Rattle.circuit.specs.Sample.{unrounded, output}
-use Rattle.circuit.specs.File.{bytes, checkOf, zeros}
+use Rattle.circuit.specs.Run.{Ran}
+use Rattle.circuit.specs.File.{blockLength, bytes, checkOf, zeros, fileOf}
 use Rattle.circuit.specs.Text.{text}
-use Rattle.circuit.specs.Listing.{acceptedLines}
-use Rattle.circuit.specs.declared.Join.the-variants.{Parallel}
+use Rattle.circuit.specs.Listing.{listing}
+use Rattle.circuit.specs.declared.Join.the-variants.{Series, Parallel}
 use Rattle.circuit.specs.declared.CurveKind.the-variants.{Single, Pair}
 use Rattle.circuit.specs.declared.Record.{Record}
 use Rattle.circuit.proofs.Working.{working}
-use Rattle.circuit.proofs.Circuits.{minus, ohms, column, case1, case6, case8, capacitive, curved, fresh}
+use Rattle.circuit.proofs.Circuits.{minus, ohms, column, case1, case6, case8, capacitive, curved, sourced, fresh}
 
--- what a case finds: the top's ratio and port resistance; a run's report, its outputs in half microvolts and what row 1 stores; the diode's
--- answers; a report; a check; a text
+-- what a case finds: the top's ratio and port resistance; a run's report, how many samples it has done, its outputs in half microvolts and
+-- what row 1 stores; the diode's answers; whether something is so; a report; a check
 data Found : Type 0 where
   top : ℕ → Float → Found
-  plays : Report → List ℤ → ℤ → Found
+  plays : Report → ℕ → List ℤ → ℤ → Found
   answers : List ℤ → Found
+  is : Bool → Found
   hands : Report → Found
   checks : ℕ → Found
-  lists : List ℕ → Found
 
 -- the top of three rows is row 2
 prepared : Record → Found
 prepared r = top (getD (setUpRows r) 2 nothing .ratio) (getD (setUpRows r) 2 nothing .resistance)
 
--- from a fresh state
-played : Record → List ℤ → Found
-played r xs = plays (fresh r xs .handedBack) (fresh r xs .output) (getD (fresh r xs .waves) 1 (pos 0))
+played : Ran → Found
+played p = plays (p .handedBack) (p .samples) (p .output) (getD (p .waves) 1 (pos 0))
+
+-- done, each of the samples, from a fresh state
+plainly : List ℤ → ℤ → Found
+plainly outputs stored = plays done (length outputs) outputs stored
 
 answered : Record → List ℤ → Found
 answered r waves = answers (map (reflected r) waves)
+
+-- the unrounded output for a sample from a fresh state is n / d
+unroundedIs : Record → ℤ → ℤ → ℕ → Found
+unroundedIs r x n d =
+    let q : Fraction = output unrounded (line r) r (λ j. whole (pos 0)) x in
+    is (eqb (natAbs (q .num *ℤ pos d -ℤ n *ℤ pos (q .den))) 0)
 
 record Line : Type 0 where
   bench : ℕ
@@ -54,37 +65,28 @@ case n f p = record { bench = n; found = f; paper = p }
 marked : List Line
 marked =
     case 1 (prepared case1) (top 12582912 (ohms 750))
-    ∷ case 2 (played case1 (pos 4000 ∷ [])) (plays done (pos 2000 ∷ []) (pos 0))
-    ∷ case 3 (played case1 (minus 4000 ∷ [])) (plays done (minus 2000 ∷ []) (pos 0))
-    ∷ case 4 (played case1 (pos 1 ∷ [])) (plays done (pos 0 ∷ []) (pos 0))
-    ∷ case 5 (played case1 (minus 1 ∷ [])) (plays done (minus 2 ∷ []) (pos 0))
+    ∷ case 2 (played (fresh case1 (pos 4000 ∷ []))) (plainly (pos 2000 ∷ []) (pos 0))
+    ∷ case 3 (played (fresh case1 (minus 4000 ∷ []))) (plainly (minus 2000 ∷ []) (pos 0))
+    ∷ case 4 (played (fresh case1 (pos 1 ∷ []))) (plainly (pos 0 ∷ []) (pos 0))
+    ∷ case 4 (unroundedIs case1 (pos 1) (pos 3) 2) (is true)
+    ∷ case 5 (played (fresh case1 (minus 1 ∷ []))) (plainly (minus 2 ∷ []) (pos 0))
     ∷ case 6 (prepared (case6 1)) (top 4194304 (ohms 4000))
-    ∷ case 6 (played (case6 1) (pos 4000 ∷ [])) (plays done (minus 4500 ∷ []) (pos 0))
-    ∷ case 7 (played (case6 255) (pos 4000 ∷ [])) (plays done (minus 2000 ∷ []) (pos 0))
-    ∷ case 8 (played case8 (pos 4000 ∷ [])) (plays done (pos 2000 ∷ []) (minus 2000))
-    ∷ case 8 (played case8 (pos 4000 ∷ pos 0 ∷ [])) (plays done (pos 2000 ∷ minus 1000 ∷ []) (minus 1000))
+    ∷ case 6 (played (fresh (case6 1) (pos 4000 ∷ []))) (plainly (minus 4500 ∷ []) (pos 0))
+    ∷ case 7 (played (fresh (case6 255) (pos 4000 ∷ []))) (plainly (minus 2000 ∷ []) (pos 0))
+    ∷ case 8 (played (fresh case8 (pos 4000 ∷ []))) (plainly (pos 2000 ∷ []) (minus 2000))
+    ∷ case 8 (played (fresh case8 (pos 4000 ∷ pos 0 ∷ []))) (plainly (pos 2000 ∷ minus 1000 ∷ []) (minus 1000))
     ∷ case 9 (answered (curved Pair (column (pos 0) (pos 0) ∷ column (pos 3) (pos 2) ∷ [])) (pos 1 ∷ pos 2 ∷ minus 2 ∷ [])) (answers (pos 0 ∷ pos 1 ∷ minus 1 ∷ []))
     ∷ case 10 (hands (setUpReport (curved Pair (column (pos 0) (pos 0) ∷ column (pos 3) (pos 4) ∷ [])))) (hands (report 10 1))
     ∷ case 10 (hands (setUpReport (curved Pair (column (pos 0) (pos 0) ∷ column (pos 3) (pos 3) ∷ [])))) (hands done)
-    ∷ case 11 (checks (checkOf 2 (zeros 512))) (checks 3)
+    ∷ case 11 (checks (checkOf 2 (zeros blockLength))) (checks 3)
     ∷ []
 
 -- every marked case finds what the paper says
 marked-cases : map (λ (l : Line). l .found) marked ≡ map (λ (l : Line). l .paper) marked
-unfolding working marked prepared played answered fresh
+unfolding working marked prepared played plainly answered unroundedIs fresh
 marked-cases = refl
 
--- case 4, unrounded: 3/2
-case-4-unrounded : output (unrounded case1) case1 (λ j. whole (pos 0)) (pos 1) ≈ over (pos 3) 2 (omega arith)
-unfolding working
-case-4-unrounded = record { same = refl }
-
--- the listing of case 1, whole
-case-1-listed : acceptedLines case1 ≡ text "rows 3 tap 1\n0 input -\n1 resistor -\n2 parallel 12582912\n"
-unfolding working
-case-1-listed = refl
-
--- ---- shortcuts seen in the old units, each at a case where it would answer something else
+-- ---- shortcuts seen in the old units, each at a case where it would answer something else; R1 in the parallel quotient breaks case 1
 
 shortcuts : List Line
 shortcuts =
@@ -93,21 +95,47 @@ shortcuts =
     -- past the last column the line falls one for one; carried on with the last slope it would be level
     ∷ case 0 (answered (curved Pair (column (pos 0) (pos 0) ∷ column (pos 4) (pos 4) ∷ column (pos 9) (pos 4) ∷ [])) (pos 12 ∷ minus 12 ∷ [])) (answers (pos 1 ∷ minus 1 ∷ []))
     -- left of a single's first column it goes down one for one
-    ∷ case 0 (answered (curved Single (column (minus 4) (minus 4) ∷ column (pos 0) (pos 0) ∷ [])) (minus 10 ∷ [])) (answers (minus 10 ∷ []))
-    -- a check counts the last of its 127 words, and nothing after it
-    ∷ case 0 (checks (checkOf 2 (zeros 504 ++ bytes 4 5 ++ bytes 4 9))) (checks 8)
-    -- 2^-20 F at 48,000 Hz is 2^20 / 96,000 Ω, in parallel with 1000 Ω
-    ∷ case 0 (prepared capacitive) (top 181271 (fin false 760309726696435 (negsuc 45)))
+    ∷ case 0 (answered (curved Single (column (minus 4) (minus 2) ∷ column (pos 0) (pos 0) ∷ [])) (minus 11 ∷ [])) (answers (minus 9 ∷ []))
     -- wave 0 gives 0
     ∷ case 0 (answered case1 (pos 0 ∷ [])) (answers (pos 0 ∷ []))
+    -- a refused sample stores nothing: the wave, the count and the output are those of the sample before it, and the next output is untouched
+    ∷ case 0 (played (fresh case8 (pos 4000 ∷ pos 16777217 ∷ []))) (plays (report 14 1) 1 (pos 2000 ∷ pos 7 ∷ []) (minus 2000))
     ∷ []
 
 -- the rule's answer, and not the shortcut's
 shortcuts-avoided : map (λ (l : Line). l .found) shortcuts ≡ map (λ (l : Line). l .paper) shortcuts
-unfolding working shortcuts answered prepared
+unfolding working shortcuts answered played fresh
 shortcuts-avoided = refl
 
--- the parallel quotient takes R2: 3000 / (1000 + 3000), and not 1000 / (1000 + 3000)
-parallel-takes-second : quotient Parallel (ohms 1000) (ohms 3000) ≡ fin false 3 (negsuc 1)
+-- ---- operands: a sample with a wave from each child, tapped at either and at the top; a capacitor's sign; the last word of a check
+
+operands : List Line
+operands =
+    case 0 (played (fresh (sourced Parallel 0 (ohms 750)) (pos 4000 ∷ []))) (plainly (pos 2000 ∷ []) (pos 0))
+    ∷ case 0 (played (fresh (sourced Parallel 1 (ohms 750)) (pos 4000 ∷ []))) (plainly (pos 2000 ∷ []) (pos 0))
+    ∷ case 0 (played (fresh (sourced Parallel 255 (ohms 750)) (pos 4000 ∷ []))) (plainly (pos 2000 ∷ []) (pos 0))
+    ∷ case 0 (played (fresh (sourced Series 0 (ohms 4000)) (pos 4000 ∷ []))) (plainly (pos 6200 ∷ []) (pos 0))
+    ∷ case 0 (played (fresh (sourced Series 1 (ohms 4000)) (pos 4000 ∷ []))) (plainly (minus 4200 ∷ []) (pos 0))
+    ∷ case 0 (played (fresh (sourced Series 255 (ohms 4000)) (pos 4000 ∷ []))) (plainly (minus 2000 ∷ []) (pos 0))
+    -- 2^-20 F at 48,000 Hz is 2^20 / 96,000 Ω, in parallel with 1000 Ω; it stores 86, then 84
+    ∷ case 0 (prepared capacitive) (top 181271 (fin false 760309726696435 (negsuc 45)))
+    ∷ case 0 (played (fresh capacitive (pos 4000 ∷ pos 0 ∷ []))) (plainly (pos 86 ∷ pos 170 ∷ []) (pos 84))
+    -- a check counts the last of its 127 words, and nothing after it
+    ∷ case 0 (checks (checkOf 2 (zeros 504 ++ bytes 4 5 ++ bytes 4 9))) (checks 8)
+    ∷ []
+
+operands-told : map (λ (l : Line). l .found) operands ≡ map (λ (l : Line). l .paper) operands
+unfolding working operands prepared played plainly fresh
+operands-told = refl
+
+-- ---- listings, from bytes to text
+
+-- case 1, whole
+case-1-listed : listing (fileOf case1) ≡ text "rows 3 tap 1\n0 input -\n1 resistor -\n2 parallel 12582912\n"
 unfolding working
-parallel-takes-second = refl
+case-1-listed = refl
+
+-- a byte of row 0 turned over
+damaged-listed : listing (set (fileOf case1) blockLength 5) ≡ text "refused 2 at 1\n"
+unfolding working
+damaged-listed = refl

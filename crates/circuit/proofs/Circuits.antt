@@ -5,13 +5,13 @@ use mathlib.Core.List.{List, [], _∷_, _++_}
 use lib.ListN.{length, replicate}
 use lib.IntN.{ℤ, pos, negsuc, negℤ}
 use lib.Ieee.{Float, fin, binary64, ofInt}
-use Rattle.circuit.specs.Record.{rowLimit, columnLimit}
+use Rattle.circuit.specs.Record.{rowLimit, columnLimit, blankRow}
 use Rattle.circuit.specs.Run.{Call, Ran, call, freshWaves, ran}
 use Rattle.circuit.specs.declared.Element.the-variants.{Resistor, Capacitor, Inductor, Input, Steady}
 use Rattle.circuit.specs.declared.Join.{Join}
 use Rattle.circuit.specs.declared.Join.the-variants.{Series, Parallel}
 use Rattle.circuit.specs.declared.Part.{Part}
-use Rattle.circuit.specs.declared.Part.the-variants.{Blank, Leaf, Adaptor}
+use Rattle.circuit.specs.declared.Part.the-variants.{Leaf, Adaptor}
 use Rattle.circuit.specs.declared.Row.{Row}
 use Rattle.circuit.specs.declared.Column.{Column}
 use Rattle.circuit.specs.declared.CurveKind.{CurveKind}
@@ -58,7 +58,7 @@ circuit ps tap kind cs q = record {
   rate = 48000;
   count = length ps;
   tap = tap;
-  rows = rowsOf ps ++ replicate (rowLimit - length ps) (record { part = Blank });
+  rows = rowsOf ps ++ replicate (rowLimit - length ps) blankRow;
   kind = kind;
   width = length cs;
   columns = cs ++ replicate (columnLimit - length cs) (column (pos 0) (pos 0));
@@ -73,6 +73,10 @@ curveK = column (pos 0) (pos 0) ∷ column (pos 1000) (pos 1000) ∷ column (pos
 -- input 1000 Ω and resistor 3000 Ω, joined
 abbrev pub divider : Join → ℕ → Float → Record
 divider k tap q = circuit (input (ohms 1000) ∷ resistor (ohms 3000) ∷ joins k 0 1 ∷ []) tap Pair curveK q
+
+-- input 1000 Ω and a steady source of 600 µV behind 3000 Ω, joined
+abbrev pub sourced : Join → ℕ → Float → Record
+sourced k tap q = circuit (input (ohms 1000) ∷ steady (ohms 3000) (pos 600) ∷ joins k 0 1 ∷ []) tap Pair curveK q
 
 abbrev pub case1 : Record
 case1 = divider Parallel 1 (ohms 750)

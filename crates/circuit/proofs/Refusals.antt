@@ -1,18 +1,21 @@
 -- Every number from 1 to 15, with its place, at an input that gets it, and beside a limit an input that just passes. One table, worked out.
-use Prim.Native.Nat.{ℕ}
+use Prim.Native.Nat.{ℕ, _+_, _-_}
 use mathlib.Core.Path.{_≡_, refl}
 use mathlib.Core.Bool.{Bool, true, false}
 use mathlib.Core.List.{List, [], _∷_, _++_, map}
-use lib.ListN.{set}
+use lib.ListN.{length, set, replicate}
 use lib.IntN.{ℤ, pos, negsuc}
 use lib.Ieee.{Float, nan, inf, fin}
 use Rattle.circuit.specs.Numbers.{Report, report, done, fails}
+use Rattle.circuit.specs.Counting.{table}
+use Rattle.circuit.specs.Record.{columnLimit}
 use Rattle.circuit.specs.SetUp.{setUpReport}
 use Rattle.circuit.specs.Run.{call, freshWaves, ran}
-use Rattle.circuit.specs.File.{block, readReport, writeReport, clearRow, unused, zeros}
+use Rattle.circuit.specs.File.{fileLength, blockLength, block, readReport, writeReport, clearRow, unusedBytesRule, zeros}
 use Rattle.circuit.specs.declared.Join.the-variants.{Series, Parallel}
 use Rattle.circuit.specs.declared.Part.{Part}
 use Rattle.circuit.specs.declared.Part.the-variants.{Blank}
+use Rattle.circuit.specs.declared.Column.{Column}
 use Rattle.circuit.specs.declared.CurveKind.the-variants.{Unset, Single, Pair}
 use Rattle.circuit.specs.declared.Record.{Record}
 use Rattle.circuit.proofs.Working.{working}
@@ -20,23 +23,28 @@ use Rattle.circuit.proofs.Circuits.{minus, ohms, input, resistor, induc
 
 -- ---- changed records
 
-case1With : ℕ → ℕ → Record
-case1With rate count = record {
+-- case 1 with another rate and other counts, and with a column after the curve's
+case1With : ℕ → ℕ → ℕ → List Column → Record
+case1With rate count width more = record {
   rate = rate;
   count = count;
   tap = case1 .tap;
   rows = case1 .rows;
   kind = case1 .kind;
-  width = case1 .width;
-  columns = case1 .columns;
+  width = width;
+  columns = curveK ++ more ++ replicate (columnLimit - length (curveK ++ more)) (column (pos 0) (pos 0));
   resistance = case1 .resistance;
 }
 
 atRate : ℕ → Record
-atRate rate = case1With rate 3
+atRate rate = case1With rate 3 3 []
 
 counting : ℕ → Record
-counting count = case1With 48000 count
+counting count = case1With 48000 count 3 []
+
+-- a pair with n level columns
+level : ℕ → Record
+level n = curved Pair (table (λ i. column (pos i) (pos 0)) n)
 
 -- parts at 48,000 Hz with curve K and a curve resistance
 parts : List Part → ℕ → Float → Record
@@ -46,7 +54,7 @@ parts ps tap q = circuit ps tap Pair curveK q
 pair : Float → Float → Float → Record
 pair a b q = parts (input a ∷ resistor b ∷ joins Parallel 0 1 ∷ []) 1 q
 
--- input and four steady sources of 2^24 µV in series: the top's wave is five times 2^24
+-- input and four steady sources of 2^24 µV in series: the top's wave is the sample and 2^26
 stack : Record
 stack =
     parts
@@ -65,7 +73,11 @@ stack =
 sampling : ℤ → Report
 sampling x = fresh stack (x ∷ []) .handedBack
 
--- what a call hands back, and what is left of it
+-- input 750 Ω and a part in parallel, with a diode that sends back what it gets
+straight : Part → ℕ → Record
+straight p q = circuit (input (ohms 750) ∷ p ∷ joins Parallel 0 1 ∷ []) 0 Pair (column (pos 0) (pos 0) ∷ column (pos 67108864) (pos 67108864) ∷ []) (ohms q)
+
+-- what a call hands back, and what the paper says
 record Line : Type 0 where
   found : Report
   paper : Report
@@ -77,10 +89,10 @@ gives f p = record { found = f; paper = p }
 files : List Line
 files =
     gives (readReport []) (report 1 0)
-    ∷ gives (readReport (zeros 1537)) (report 1 0)
-    ∷ gives (writeReport (record { circuit = case1; buffer = zeros 1535 })) (report 1 0)
-    ∷ gives (writeReport (record { circuit = case1; buffer = zeros 1536 })) done
-    ∷ gives (readReport (block 0 [] ++ zeros 512 ++ zeros 512)) (report 2 1)
+    ∷ gives (readReport (zeros (fileLength + 1))) (report 1 0)
+    ∷ gives (writeReport (record { circuit = case1; buffer = zeros (fileLength - 1) })) (report 1 0)
+    ∷ gives (writeReport (record { circuit = case1; buffer = zeros fileLength })) done
+    ∷ gives (readReport (block 0 [] ++ zeros blockLength ++ zeros blockLength)) (report 2 1)
     ∷ gives (readReport (block 0 [] ++ block 1 [] ++ block 2 [])) (report 3 0)
     ∷ []
 
@@ -92,7 +104,7 @@ files-refused = refl
 spoiled : List ℕ
 spoiled = 6 ∷ 7 ∷ 12 ∷ 15 ∷ 24 ∷ []
 
-spoiled-refused : map (λ (at : ℕ). unused (set (zeros 25) at 128)) spoiled ≡ map (λ (at : ℕ). fails 0) spoiled
+spoiled-refused : map (λ (at : ℕ). unusedBytesRule (set (zeros 25) at 128)) spoiled ≡ map (λ (at : ℕ). fails 0) spoiled
 unfolding working spoiled
 spoiled-refused = refl
 
@@ -125,7 +137,12 @@ records =
     ∷ gives (setUpReport (counting 2)) (report 4 0)
     ∷ gives (setUpReport (parts (input (ohms 1000) ∷ Blank ∷ joins Parallel 0 1 ∷ []) 0 (ohms 750))) (report 4 0)
     ∷ gives (setUpReport (curved Unset curveK)) (report 4 0)
-    ∷ gives (setUpReport (curved Pair (column (pos 0) (pos 0) ∷ []))) (report 4 0)
+    ∷ gives (setUpReport (level 1)) (report 4 0)
+    ∷ gives (setUpReport (level 2)) done
+    ∷ gives (setUpReport (level 62)) done
+    ∷ gives (setUpReport (case1With 48000 3 63 [])) (report 4 0)
+    -- a column past the count that is not (0, 0)
+    ∷ gives (setUpReport (case1With 48000 3 3 (column (pos 0) (pos 1) ∷ []))) (report 4 0)
     ∷ gives (setUpReport (atRate 7999)) (report 5 0)
     ∷ gives (setUpReport (atRate 8000)) done
     ∷ gives (setUpReport (atRate 768000)) done
@@ -147,14 +164,19 @@ records =
     ∷ gives (setUpReport (pair (ohms 1000) (inf false) (ohms 750))) (report 7 1)
     ∷ gives (setUpReport (parts (input (ohms 1000) ∷ steady (ohms 3000) (minus 16777217) ∷ joins Parallel 0 1 ∷ []) 1 (ohms 750))) (report 7 1)
     ∷ gives (setUpReport (parts (input (ohms 1000) ∷ steady (ohms 3000) (minus 16777216) ∷ joins Parallel 0 1 ∷ []) 1 (ohms 750))) done
-    -- 2^31 Ω; a subnormal; an inductor that overflows; the limits themselves
+    ∷ gives (setUpReport (parts (input (ohms 1000) ∷ steady (ohms 3000) (pos 16777217) ∷ joins Parallel 0 1 ∷ []) 1 (ohms 750))) (report 7 1)
+    -- 2^31 Ω; a subnormal; an inductor that overflows; the limits themselves, and just past them
     ∷ gives (setUpReport (pair (ohms 1000) (ohms 2147483648) (ohms 750))) (report 8 1)
     ∷ gives (setUpReport (pair (fin false 1 (negsuc 1073)) (ohms 3000) (ohms 750))) (report 8 0)
     ∷ gives (setUpReport (parts (input (ohms 250) ∷ inductor (fin false 1 (pos 1023)) ∷ joins Parallel 0 1 ∷ []) 1 (ohms 750))) (report 8 1)
     ∷ gives (setUpReport (parts (input (ohms 1073741824) ∷ []) 255 (ohms 1073741824))) done
+    ∷ gives (setUpReport (parts (input (ohms 1073741825) ∷ []) 255 (ohms 1073741824))) (report 8 0)
     ∷ gives (setUpReport (parts (input (fin false 1 (negsuc 9)) ∷ []) 0 (fin false 1 (negsuc 9)))) done
-    -- 2^24 / (2^30 + 1), below one part
-    ∷ gives (setUpReport (pair (ohms 1073741824) (ohms 1) (ohms 1))) (report 9 2)
+    ∷ gives (setUpReport (parts (input (fin false 1023 (negsuc 19)) ∷ []) 0 (fin false 1 (negsuc 9)))) (report 8 0)
+    -- 2^24 / (2^24 + 1), below one part; one part, and all but one
+    ∷ gives (setUpReport (pair (ohms 16777216) (ohms 1) (ohms 1))) (report 9 2)
+    ∷ gives (setUpReport (pair (ohms 16777215) (ohms 1) (ohms 1))) done
+    ∷ gives (setUpReport (pair (ohms 1) (ohms 16777215) (ohms 1))) done
     -- x too large, x that does not rise, a pair that does not start at (0, 0), a single that misses it
     ∷ gives (setUpReport (curved Pair (column (pos 0) (pos 0) ∷ column (pos 67108865) (pos 0) ∷ []))) (report 10 1)
     ∷ gives (setUpReport (curved Pair (column (pos 0) (pos 0) ∷ column (pos 67108864) (pos 0) ∷ []))) done
@@ -162,13 +184,17 @@ records =
     ∷ gives (setUpReport (curved Pair (column (pos 1) (pos 0) ∷ column (pos 5) (pos 1) ∷ []))) (report 10 0)
     ∷ gives (setUpReport (curved Single (column (minus 3) (minus 1) ∷ column (pos 5) (pos 1) ∷ []))) (report 10 0)
     ∷ gives (setUpReport (curved Single (column (minus 3) (minus 1) ∷ column (pos 0) (pos 0) ∷ []))) done
-    -- 751 Ω for a port of 750 Ω; no number
-    ∷ gives (setUpReport (pair (ohms 1000) (ohms 3000) (ohms 751))) (report 11 0)
+    -- for a port of 750 Ω: 1025/1024 and 1023/1024 of it, and 1/512 Ω past each; no number, and an infinite one
+    ∷ gives (setUpReport (pair (ohms 1000) (ohms 3000) (fin false 384375 (negsuc 8)))) done
+    ∷ gives (setUpReport (pair (ohms 1000) (ohms 3000) (fin false 48047 (negsuc 5)))) (report 11 0)
+    ∷ gives (setUpReport (pair (ohms 1000) (ohms 3000) (fin false 383625 (negsuc 8)))) done
+    ∷ gives (setUpReport (pair (ohms 1000) (ohms 3000) (fin false 47953 (negsuc 5)))) (report 11 0)
     ∷ gives (setUpReport (pair (ohms 1000) (ohms 3000) nan)) (report 11 0)
+    ∷ gives (setUpReport (pair (ohms 1000) (ohms 3000) (inf false))) (report 11 0)
     ∷ []
 
 records-refused : map (λ (l : Line). l .found) records ≡ map (λ (l : Line). l .paper) records
-unfolding working records case1With atRate counting parts pair
+unfolding working records case1With atRate counting level parts pair
 records-refused = refl
 
 -- numbers 12 to 15 of a run
@@ -178,14 +204,21 @@ runs =
     gives (ran (calling case1 (set freshWaves 1 (pos 1)) []) .handedBack) (report 12 1)
     ∷ gives (ran (calling case8 (set freshWaves 1 (minus 67108865)) []) .handedBack) (report 12 1)
     ∷ gives (ran (calling case8 (set freshWaves 1 (minus 67108864)) []) .handedBack) done
+    ∷ gives (ran (calling case8 (set freshWaves 1 (pos 67108865)) []) .handedBack) (report 12 1)
     ∷ gives (ran (calling case8 (set freshWaves 30 (pos 1)) []) .handedBack) (report 12 30)
     ∷ gives (ran (call case1 freshWaves (pos 1 ∷ []) []) .handedBack) (report 13 0)
+    ∷ gives (ran (call case1 freshWaves [] (pos 1 ∷ [])) .handedBack) (report 13 0)
     ∷ gives (fresh case1 (pos 16777216 ∷ []) .handedBack) done
     ∷ gives (fresh case1 (pos 1 ∷ pos 2 ∷ minus 16777217 ∷ []) .handedBack) (report 14 2)
-    -- five sources that add up, and four that do not pass the limit
-    ∷ gives (sampling (pos 16777216)) (report 15 0)
+    -- the top's wave at the limit and one above it; both 14 and 15
+    ∷ gives (sampling (pos 0)) done
+    ∷ gives (sampling (pos 1)) (report 15 0)
+    ∷ gives (sampling (pos 16777217)) (report 14 0)
+    -- the wave that reaches the input at the limit, and above it with the top's wave below
+    ∷ gives (ran (calling (straight (inductor (fin false 1 (negsuc 6))) 375) (set freshWaves 1 (pos 67108864)) (pos 0 ∷ [])) .handedBack) done
+    ∷ gives (ran (calling (straight (inductor (fin false 1 (negsuc 7))) 250) (set freshWaves 1 (pos 67108864)) (minus 16777216 ∷ [])) .handedBack) (report 15 0)
     ∷ []
 
 runs-refused : map (λ (l : Line). l .found) runs ≡ map (λ (l : Line). l .paper) runs
-unfolding working runs stack sampling parts fresh
+unfolding working runs stack sampling straight parts fresh
 runs-refused = refl

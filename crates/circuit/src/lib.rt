@@ -1,13 +1,45 @@
 // The words of a circuit: the record that describes one, what set-up makes of it, the waves that a run carries, and the answers
 // that the unit hands back. What they mean is in specs/, a file to a heading of the paper.
 
+ghost use mathlib.Core.Path.{_≡_};
+ghost use Rattle.circuit.specs.Counting.{within};
+ghost use Rattle.circuit.specs.Record.{isLeaf, isInput};
+ghost use Rattle.circuit.specs.Curve.{waveLimit};
+ghost use Rattle.circuit.specs.Run.{isReactive};
+
 // Room for this many rows and columns.
 pub const ROWS: usize = 31;
 
 pub const COLUMNS: usize = 62;
 
+// The rate, in whole hertz.
+pub const LOWEST_RATE: u32 = 8000;
+
+pub const HIGHEST_RATE: u32 = 768000;
+
+// Microvolts of a steady source and of a sample.
+pub const SOURCE_LIMIT: i32 = 16777216;
+
+// Microvolts of a column's x, of a stored wave, and of a wave at the diode or at a leaf.
+pub const WAVE_LIMIT: i32 = 67108864;
+
+// A ratio counts parts of this many.
+pub const PARTS: u32 = 16777216;
+
 // A tap at the top, where the diode is.
 pub const TOP: u8 = 255;
+
+// The place of a fault that lies at no row.
+pub const NO_ROW: u8 = 255;
+
+// Bytes of a circuit file and of each of its blocks, where a block's check stands, and how many rows a block of rows has.
+pub const FILE_LENGTH: usize = 1536;
+
+pub const BLOCK_LENGTH: usize = 512;
+
+pub const CHECK_PLACE: usize = 508;
+
+pub const ROWS_PER_BLOCK: usize = 31;
 
 // A leaf: ohms, farads or henries. A steady source also has its microvolts.
 pub enum Element {
@@ -16,6 +48,33 @@ pub enum Element {
     Inductor(f64),
     Input(f64),
     Steady(f64, i32),
+}
+
+impl Element {
+    // Only a reactive element stores a wave.
+    pub fn is_reactive(self) -> bool
+        ensures { λ b. ⌜ b ≡ isReactive self ⌝ }
+    {
+        match self {
+            Element::Resistor(_) => false,
+            Element::Capacitor(_) => true,
+            Element::Inductor(_) => true,
+            Element::Input(_) => false,
+            Element::Steady(_, _) => false,
+        }
+    }
+
+    fn is_source(self) -> bool
+        ensures { λ b. ⌜ b ≡ isInput (Part.Leaf self) ⌝ }
+    {
+        match self {
+            Element::Resistor(_) => false,
+            Element::Capacitor(_) => false,
+            Element::Inductor(_) => false,
+            Element::Input(_) => true,
+            Element::Steady(_, _) => false,
+        }
+    }
 }
 
 pub enum Join {
@@ -34,6 +93,28 @@ pub enum Part {
     Blank,
     Leaf(Element),
     Adaptor(Adaptor),
+}
+
+impl Part {
+    pub fn is_leaf(self) -> bool
+        ensures { λ b. ⌜ b ≡ isLeaf self ⌝ }
+    {
+        match self {
+            Part::Blank => false,
+            Part::Leaf(_) => true,
+            Part::Adaptor(_) => false,
+        }
+    }
+
+    pub fn is_input(self) -> bool
+        ensures { λ b. ⌜ b ≡ isInput self ⌝ }
+    {
+        match self {
+            Part::Blank => false,
+            Part::Leaf(e) => e.is_source(),
+            Part::Adaptor(_) => false,
+        }
+    }
 }
 
 pub struct Row {
@@ -123,4 +204,11 @@ pub struct Progress {
     pub answer: Answer,
     pub done: usize,
     pub state: State,
+}
+
+// Whether microvolts keep the limit of a wave.
+pub fn in_wave_limit(microvolts: i32) -> bool
+    ensures { λ b. ⌜ b ≡ within waveLimit microvolts ⌝ }
+{
+    (-WAVE_LIMIT <= microvolts) & (microvolts <= WAVE_LIMIT)
 }

@@ -1,6 +1,6 @@
 -- The sweep down leaves at each adaptor's children what it sends them from its own row, since a child has no other adaptor above it and stands
 -- in a lower row. So each leaf's row holds the wave that the tree's own recursion brings there.
-use Prim.Native.Nat.{ℕ, zero, suc, _+_, _-_, _*_, _<_, _≤_}
+use Prim.Native.Nat.{ℕ, zero, suc, _+_, _-_, _<_, _≤_}
 use native.Mathlib.Decide.{ℕ-discrete}
 use native.Mathlib.Omega.{arith}
 use mathlib.Core.Path.{_≡_, refl, sym, ap, _∙_, subst}
@@ -11,32 +11,34 @@ use lib.ListN.{getD, length, set, length-set}
 use lib.Seq.{getD-set-same, getD-set-other, lt-length-set}
 use lib.IntN.{ℤ, pos}
 use Rattle.whole.specs.Order.{Abs, abs-as}
-use Rattle.circuit.specs.Record.{partAt}
-use Rattle.circuit.specs.SetUp.{ratioAt}
-use Rattle.circuit.specs.Sample.{sendsUp, sendsFirst, sendsSecond, up}
+use Rattle.circuit.specs.Record.{partAt, treeAt, rowLimit, isAdaptor}
+use Rattle.circuit.specs.SetUp.{ratioAt, parts}
+use Rattle.circuit.specs.Sample.{sendsUp, sendsFirst, sendsSecond, up, storedAt, rounded}
 use Rattle.circuit.specs.declared.Adaptor.{Adaptor as Joint}
 use Rattle.circuit.specs.declared.Part.{Part}
 use Rattle.circuit.specs.declared.Part.the-variants.{Blank, Leaf, Adaptor}
 use Rattle.circuit.specs.declared.Record.{Record}
-use Rattle.laws.specs.Accepted.{Child, Apart}
-use Rattle.laws.proofs.Shape.{child-lower}
-use Rattle.engine.specs.Wave.{counting}
-use Rattle.engine.specs.Plan.{isAdaptor}
-use Rattle.engine.specs.Sweep.{waveAt, linkAt, lowered, Lowers, dropped, Drops}
+use Rattle.circuit.specs.Curve.{waveLimit}
+use Rattle.engine.specs.Plan.{rank}
+use Rattle.laws.specs.Accepted.{Child, Apart, adaptors}
+use Rattle.laws.proofs.Formed.{child-lower}
+use Rattle.engine.specs.Wave.{mostAdaptors, upLimit, downLimit}
+use Rattle.engine.specs.Sweep.{linkAt, lowered, Lowers, dropped, Drops}
 use Rattle.engine.proofs.Range.{first-range, second-range}
-use Rattle.engine.proofs.Ranks.{rank-rises, rank-order}
-use Rattle.engine.proofs.Stages.{children-lower, adaptorRank, Lined, Stage, stage-at, same-place}
+use Rattle.theorems.proofs.Bound.{rounded-down-errs}
+use Rattle.engine.proofs.Ranks.{rank-rises, rank-order, has-place}
+use Rattle.engine.proofs.Stages.{children-lower, children-few, adaptors-most, adaptorRank, Lined, Stage, stage-at, row-there}
 
 -- ---- two stores
 
 module _ (ds : List ℤ) (a b : ℕ) (x y : ℤ) where
-  elsewhere : (k : ℕ) → (k ≡ a → ⊥) → (k ≡ b → ⊥) → waveAt (set (set ds a x) b y) k ≡ waveAt ds k
+  elsewhere : (k : ℕ) → (k ≡ a → ⊥) → (k ≡ b → ⊥) → storedAt (set (set ds a x) b y) k ≡ storedAt ds k
   elsewhere k p q = getD-set-other (set ds a x) b k y (pos 0) q ∙ getD-set-other ds a k x (pos 0) p
 
-  at-first : (a ≡ b → ⊥) → a < length ds → waveAt (set (set ds a x) b y) a ≡ x
+  at-first : (a ≡ b → ⊥) → a < length ds → storedAt (set (set ds a x) b y) a ≡ x
   at-first n h = getD-set-other (set ds a x) b a y (pos 0) n ∙ getD-set-same ds a x (pos 0) h
 
-  at-second : b < length ds → waveAt (set (set ds a x) b y) b ≡ y
+  at-second : b < length ds → storedAt (set (set ds a x) b y) b ≡ y
   at-second h = getD-set-same (set ds a x) b y (pos 0) (lt-length-set ds a x h)
 
 child-first : (a : Joint) → Child (Adaptor a) (a .first)
@@ -65,13 +67,13 @@ apart-of a h = h
 module _ {r : Record} {words rows : List ℕ} {n : ℕ} (lined : Lined r words rows n) (ups : List ℤ) where
   -- the children of adaptor a at row p hold what it sends them
   pub record Sends (p : ℕ) (a : Joint) (ds : List ℤ) : Type 0 where
-    pub first : waveAt ds (a .first) ≡ sendsFirst counting (a .join) (ratioAt r p) (waveAt ups (a .first)) (waveAt ups (a .second)) (waveAt ds p)
-    pub second : waveAt ds (a .second) ≡ sendsSecond counting (a .join) (ratioAt r p) (waveAt ups (a .first)) (waveAt ups (a .second)) (waveAt ds p)
+    pub first : storedAt ds (a .first) ≡ sendsFirst rounded (a .join) (ratioAt r p) (storedAt ups (a .first)) (storedAt ups (a .second)) (storedAt ds p)
+    pub second : storedAt ds (a .second) ≡ sendsSecond rounded (a .join) (ratioAt r p) (storedAt ups (a .first)) (storedAt ups (a .second)) (storedAt ds p)
 
   -- the adaptors from place k on have sent
   pub record Falling (top : ℤ) (k : ℕ) (ds : List ℤ) : Type 0 where
-    pub long : length ds ≡ 31
-    pub above : waveAt ds (r .count - 1) ≡ top
+    pub long : length ds ≡ rowLimit
+    pub above : storedAt ds (r .count - 1) ≡ top
     pub sends : (p : ℕ) (a : Joint) → p < r .count → partAt r p ≡ Adaptor a → k ≤ adaptorRank r p → Sends p a ds
 
   module _ (top : ℤ) (k : ℕ) (s : Stage r words rows k) (ds : List ℤ) (falling : Falling top (suc k) ds) where
@@ -79,10 +81,10 @@ module _ {r : Record} {words rows : List ℕ} {n : ℕ} (lined : Lined r words r
     a = s .joint
 
     b1 : ℤ
-    b1 = sendsFirst counting (a .join) (ratioAt r (s .row)) (waveAt ups (a .first)) (waveAt ups (a .second)) (waveAt ds (s .row))
+    b1 = sendsFirst rounded (a .join) (ratioAt r (s .row)) (storedAt ups (a .first)) (storedAt ups (a .second)) (storedAt ds (s .row))
 
     b2 : ℤ
-    b2 = sendsSecond counting (a .join) (ratioAt r (s .row)) (waveAt ups (a .first)) (waveAt ups (a .second)) (waveAt ds (s .row))
+    b2 = sendsSecond rounded (a .join) (ratioAt r (s .row)) (storedAt ups (a .first)) (storedAt ups (a .second)) (storedAt ds (s .row))
 
     after : List ℤ
     after = set (set ds (a .first) b1) (a .second) b2
@@ -94,21 +96,21 @@ module _ {r : Record} {words rows : List ℕ} {n : ℕ} (lined : Lined r words r
     room = let short = lined .accepted .short in let inside = s .inside in omega (arith, falling .long)
 
     -- a row that is not below this adaptor keeps its wave
-    kept : (j : ℕ) → (Child (Adaptor a) j → ⊥) → waveAt after j ≡ waveAt ds j
+    kept : (j : ℕ) → (Child (Adaptor a) j → ⊥) → storedAt after j ≡ storedAt ds j
     unfolding after Child
     kept j free = elsewhere ds (a .first) (a .second) b1 b2 j (λ e. free (inl e)) (λ e. free (inr e))
 
     -- and so does one that stands no lower
-    higher : (j : ℕ) → s .row ≤ j → waveAt after j ≡ waveAt ds j
+    higher : (j : ℕ) → s .row ≤ j → storedAt after j ≡ storedAt ds j
     higher j l = kept j (λ c. ⊎-elim (λ e. omega (arith, lower)) (λ e. omega (arith, lower)) (children-of a j c))
 
     here : Sends (s .row) a after
     unfolding after b1 b2
     here = record {
       first = at-first ds (a .first) (a .second) b1 b2 (apart-of a (subst Apart (s .part) (lined .accepted .apart (s .row)))) (omega (arith, lower, room))
-          ∙ ap (sendsFirst counting (a .join) (ratioAt r (s .row)) (waveAt ups (a .first)) (waveAt ups (a .second))) (sym (higher (s .row) (omega arith)));
+          ∙ ap (sendsFirst rounded (a .join) (ratioAt r (s .row)) (storedAt ups (a .first)) (storedAt ups (a .second))) (sym (higher (s .row) (omega arith)));
       second = at-second ds (a .first) (a .second) b1 b2 (omega (arith, lower, room))
-          ∙ ap (sendsSecond counting (a .join) (ratioAt r (s .row)) (waveAt ups (a .first)) (waveAt ups (a .second))) (sym (higher (s .row) (omega arith)));
+          ∙ ap (sendsSecond rounded (a .join) (ratioAt r (s .row)) (storedAt ups (a .first)) (storedAt ups (a .second))) (sym (higher (s .row) (omega arith)));
     }
 
     module _ (p : ℕ) (b : Joint) (l : p < r .count) (e : partAt r p ≡ Adaptor b) (h : suc k ≤ adaptorRank r p) where
@@ -116,7 +118,7 @@ module _ {r : Record} {words rows : List ℕ} {n : ℕ} (lined : Lined r words r
       above-here = let place = s .place in rank-order (λ i. isAdaptor (partAt r i)) (s .row) p (omega arith)
 
       -- its children have no other adaptor above them
-      kept-child : (c : ℕ) → Child (Adaptor b) c → waveAt after c ≡ waveAt ds c
+      kept-child : (c : ℕ) → Child (Adaptor b) c → storedAt after c ≡ storedAt ds c
       kept-child c child = kept c (λ o.
           let same : p ≡ s .row = lined .accepted .once p (s .row) c (subst (λ (x : Part). Child x c) (sym e) child) (subst (λ (x : Part). Child x c) (sym (s .part)) o) in
           omega (arith, above-here))
@@ -126,9 +128,9 @@ module _ {r : Record} {words rows : List ℕ} {n : ℕ} (lined : Lined r words r
           let old = falling .sends p b l e h in
           record {
             first = kept-child (b .first) (child-first b) ∙ old .first
-                ∙ ap (sendsFirst counting (b .join) (ratioAt r p) (waveAt ups (b .first)) (waveAt ups (b .second))) (sym (higher p (omega (arith, above-here))));
+                ∙ ap (sendsFirst rounded (b .join) (ratioAt r p) (storedAt ups (b .first)) (storedAt ups (b .second))) (sym (higher p (omega (arith, above-here))));
             second = kept-child (b .second) (child-second b) ∙ old .second
-                ∙ ap (sendsSecond counting (b .join) (ratioAt r p) (waveAt ups (b .first)) (waveAt ups (b .second))) (sym (higher p (omega (arith, above-here))));
+                ∙ ap (sendsSecond rounded (b .join) (ratioAt r p) (storedAt ups (b .first)) (storedAt ups (b .second))) (sym (higher p (omega (arith, above-here))));
           }
 
     sent : (p : ℕ) (b : Joint) → p < r .count → partAt r p ≡ Adaptor b → k ≤ adaptorRank r p → Sends p b after
@@ -136,7 +138,7 @@ module _ {r : Record} {words rows : List ℕ} {n : ℕ} (lined : Lined r words r
       where
         by : Dec (adaptorRank r p ≡ k) → Sends p b after
         by (yes q) =
-            let same : p ≡ s .row = same-place lined k s p l (ap isAdaptor e) q in
+            let same : p ≡ s .row = row-there lined k s p l (ap isAdaptor e) q in
             let parts : Adaptor b ≡ Adaptor (s .joint) = sym e ∙ ap (partAt r) same ∙ s .part in
             let joint : b ≡ s .joint = cc in
             rw (same, joint) here
@@ -150,66 +152,71 @@ module _ {r : Record} {words rows : List ℕ} {n : ℕ} (lined : Lined r words r
       sends = sent;
     })
 
-  -- ---- the sizes of the waves that come down: each adaptor on the way adds at most the waves of its two children
+  -- ---- the sizes of the waves that come down: each adaptor on the way adds no more than it can send up
 
-  module _ (risen : (j : ℕ) → j < r .count → Abs (waveAt ups j) 2080374784) (top : ℤ) (small : Abs top 67108864) where
+  module _ (risen : (j : ℕ) → j < r .count → Abs (storedAt ups j) (upLimit (adaptors (treeAt r j)))) (top : ℤ) (small : Abs top waveLimit) where
+    -- past the adaptors that stand above the one at row p, of which there are no more than have a higher rank
     abbrev limit : ℕ → ℕ
-    limit j = 67108864 + (31 - j) * 4160749568
+    limit p = downLimit (n - suc (adaptorRank r p))
 
     module _ (k : ℕ) (ds : List ℤ) (falling : Falling top (suc k) ds) where
       -- below an adaptor that has sent
-      below : (p : ℕ) (a : Joint) → p < r .count → partAt r p ≡ Adaptor a → suc k ≤ adaptorRank r p → Abs (waveAt ds p) (limit p)
-          → (c : ℕ) → Child (Adaptor a) c → Abs (waveAt ds c) (limit c)
+      below : (p : ℕ) (a : Joint) → p < r .count → partAt r p ≡ Adaptor a → suc k ≤ adaptorRank r p → {e : ℕ} → Abs (storedAt ds p) e
+          → (c : ℕ) → Child (Adaptor a) c → Abs (storedAt ds c) (e + upLimit mostAdaptors)
       below p a l e h size c child =
           let sends = falling .sends p a l e h in
           let lower = children-lower r (lined .accepted) p a e in
-          let short = lined .accepted .short in
-          let less : ratioAt r p < 16777216 = omega (arith, lined .accepted .ratio p) in
+          let few = children-few r (lined .accepted) p a l e in
+          let less = lined .accepted .ratio p in
           let r1 = risen (a .first) (omega arith) in
           let r2 = risen (a .second) (omega arith) in
           ⊎-elim
-          (λ q. rw q (abs-as (first-range (ratioAt r p) less r1 r2 size (a .join)) (sym (sends .first)) (omega arith)))
-          (λ q. rw q (abs-as (second-range (ratioAt r p) less r1 r2 size (a .join)) (sym (sends .second)) (omega arith)))
+          (λ q. rw q (abs-as (first-range rounded-down-errs (ratioAt r p) less r1 r2 size (a .join)) (sym (sends .first)) (omega arith)))
+          (λ q. rw q (abs-as (second-range rounded-down-errs (ratioAt r p) less r1 r2 size (a .join)) (sym (sends .second)) (omega arith)))
           (children-of a c child)
 
       -- an adaptor at place k or higher has had its wave
-      pub quiet : (d j : ℕ) → isAdaptor (partAt r j) ≡ true → k ≤ adaptorRank r j → j < r .count → r .count ≤ j + d → Abs (waveAt ds j) (limit j)
+      pub quiet : (d j : ℕ) → isAdaptor (partAt r j) ≡ true → k ≤ adaptorRank r j → j < r .count → r .count ≤ j + d → Abs (storedAt ds j) (limit j)
       quiet zero j e h l far = absurd (let none : ⊥ = omega arith in none)
       quiet (suc d) j e h l far = by (ℕ-discrete j (r .count - 1)) (quiet d)
         where
           by : Dec (j ≡ r .count - 1)
-              → ((i : ℕ) → isAdaptor (partAt r i) ≡ true → k ≤ adaptorRank r i → i < r .count → r .count ≤ i + d → Abs (waveAt ds i) (limit i))
-              → Abs (waveAt ds j) (limit j)
-          by (yes q) higher = abs-as small (sym (ap (waveAt ds) q ∙ falling .above)) (omega arith)
+              → ((i : ℕ) → isAdaptor (partAt r i) ≡ true → k ≤ adaptorRank r i → i < r .count → r .count ≤ i + d → Abs (storedAt ds i) (limit i))
+              → Abs (storedAt ds j) (limit j)
+          by (yes q) higher = abs-as small (sym (ap (storedAt ds) q ∙ falling .above)) (omega arith)
           by (no q) higher =
               let u = lined .accepted .used j (omega arith) in
               let inside : u .0 < r .count = u .1 .inside in
               let parent = parent-of (partAt r (u .0)) j (u .1 .child) in
               let up : j < u .0 = child-lower (u .0) (partAt r (u .0)) j (lined .accepted .lower (u .0)) (u .1 .child) in
               let rank : adaptorRank r j < adaptorRank r (u .0) = rank-rises (λ i. isAdaptor (partAt r i)) j (u .0) up e in
-              below (u .0) (parent .0) inside (parent .1) (omega arith)
-              (higher (u .0) (ap isAdaptor (parent .1)) (omega arith) inside (omega arith)) j (parent .2)
+              let last : adaptorRank r (u .0) < n = has-place (lined .lists) (u .0) inside (ap isAdaptor (parent .1)) in
+              abs-as (below (u .0) (parent .0) inside (parent .1) (omega arith)
+              (higher (u .0) (ap isAdaptor (parent .1)) (omega arith) inside (omega arith)) j (parent .2)) refl (omega arith)
 
     module _ (sent : (p : ℕ) (a : Joint) → p < r .count → partAt r p ≡ Adaptor a
-        → waveAt ups p ≡ sendsUp counting (a .join) (ratioAt r p) (waveAt ups (a .first)) (waveAt ups (a .second))) where
+        → storedAt ups p ≡ sendsUp rounded (a .join) (ratioAt r p) (storedAt ups (a .first)) (storedAt ups (a .second))) where
       fits : (k : ℕ) (s : Stage r words rows k) (ds : List ℤ) → Falling top (suc k) ds → Lowers (linkAt words (getD rows k 0)) (getD rows k 0) ups ds
       fits k s ds falling =
           let short = lined .accepted .short in
           let inside = s .inside in
           let lower = children-lower r (lined .accepted) (s .row) (s .joint) (s .part) in
-          let r1 = risen (s .joint .first) (omega arith) in
-          let r2 = risen (s .joint .second) (omega arith) in
+          let few = children-few r (lined .accepted) (s .row) (s .joint) (s .inside) (s .part) in
           let place = s .place in
-          let r3 = quiet k ds falling (r .count) (s .row) (ap isAdaptor (s .part)) (omega arith) (s .inside) (omega arith) in
+          let size = adaptors-most r (lined .accepted) (lined .lists) in
           rw (s .listed, s .link)
           (record {
             here = omega arith;
             first = omega arith;
             second = omega arith;
             waves = record {
-              below = record { ratio = omega (arith, lined .accepted .ratio (s .row)); first = omega (arith, r1); second = omega (arith, r2) };
+              below = record {
+                ratio = lined .accepted .ratio (s .row);
+                first = abs-as (risen (s .joint .first) (omega arith)) refl (omega arith);
+                second = abs-as (risen (s .joint .second) (omega arith)) refl (omega arith);
+              };
               sent = sent (s .row) (s .joint) (s .inside) (s .part);
-              above = omega (arith, r3);
+              above = abs-as (quiet k ds falling (r .count) (s .row) (ap isAdaptor (s .part)) (omega arith) (s .inside) (omega arith)) refl (omega arith);
             };
           })
 

@@ -6,6 +6,7 @@ use mir.Val.{Val}
 use denote.Shadow.{shadow}
 use Rattle.circuit.proofs.State as States
 use Rattle.circuit.specs.declared.State.{State}
+use Rattle.circuit.specs.Record.{rowLimit}
 
-pub state-sized : (s : State) (vs : List Val) → shadow (States.the-row .own s vs) → length (s .waves) ≡ 31
+pub state-sized : (s : State) (vs : List Val) → shadow (States.the-row .own s vs) → length (s .waves) ≡ rowLimit
 state-sized s vs h = sym (length-map (s .waves) (λ v. v)) ∙ h .1 .1 .0 .1 .0 .1

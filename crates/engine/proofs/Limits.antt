@@ -1,52 +1,63 @@
--- A test of both signs is a test of the magnitude, and a sum of two waves in their limit fits 32 bits.
-use Prim.Native.Nat.{ℕ, suc, _<_}
-use native.Mathlib.Decide.{decLt}
+-- Waves in their limit, as code reads them back: they fit 64 bits, as do their opposites, sums and differences.
+use Prim.Native.Nat.{ℕ, _*_, _^_, _<_}
 use native.Mathlib.Omega.{arith}
-use mathlib.Core.Path.{_≡_}
-use mathlib.Core.Bool.{true, false, not, _||_}
-use lib.Dec.{leb, ltb}
-use lib.IntN.{ℤ, pos, negsuc, natAbs, _+ℤ_, _-ℤ_}
-use lib.Signed.{ltZ}
+use mathlib.Core.Path.{_≡_, ap₂, _∙_}
+use mathlib.Core.Bool.{true}
+use borrow.Author.Tests.{leb-true}
+use lib.IntN.{ℤ, pos, natAbs, negℤ, _+ℤ_, _-ℤ_, +ℤ-idl}
+use lib.Signed.{mag}
 use mir.Syntax.{w32, w64}
-use mir.Val.{SFits}
-use borrow.Author.Tests.{lt-ltb, le-ltb, le-leb, lt-leb, leb-true}
+use mir.Val.{SFits, toZ, ofZ}
+use mir.Facts.{toZ-ofZ}
 use Rattle.whole.specs.Integers.{at, _⊞_, _⊟_}
-use Rattle.whole.specs.Order.{Abs}
-use Rattle.whole.specs.Signed.{zfits}
+use Rattle.whole.specs.Order.{zarith, Abs, abs-neg}
+use Rattle.whole.specs.Signed.{zfits, fits-abs}
 use Rattle.circuit.specs.Counting.{within}
 use Rattle.circuit.specs.Curve.{waveLimit}
-
-pub outside : (k : ℕ) (z : ℤ) → (ltZ (pos (suc k)) z || ltZ z (negsuc k)) ≡ not (within (suc k) z)
-outside k (pos n) = by (decLt (suc k) n)
-  where
-    by : Dec (suc k < n) → (ltb (suc k) n || false) ≡ not (leb n (suc k))
-    by (yes h) = rw (lt-ltb (suc k) n h, lt-leb n (suc k) h)
-    by (no h) = rw (le-ltb (suc k) n (omega arith), le-leb n (suc k) (omega arith))
-outside k (negsuc n) = by (decLt k n)
-  where
-    by : Dec (k < n) → (false || ltb k n) ≡ not (leb (suc n) (suc k))
-    by (yes h) = rw (lt-ltb k n h, lt-leb (suc n) (suc k) (omega arith))
-    by (no h) = rw (le-ltb k n (omega arith), le-leb (suc n) (suc k) (omega arith))
 
 pub within-abs : (m : ℕ) (z : ℤ) → within m z ≡ true → Abs z m
 within-abs m z e = record { bound = leb-true (natAbs z) m e }
 
-pub record SumFits (a b : ℤ) : Type 0 where
-  pub first : SFits w64 a
-  pub second : SFits w64 b
-  pub sum : SFits w64 (a +ℤ b)
-  pub short : SFits w32 (a +ℤ b)
+pub abs-fits : {z : ℤ} {e : ℕ} → Abs z e → e < 2 ^ 63 → SFits w64 z
+abs-fits {z} h l = fits-abs z (omega (arith, h .bound))
 
-pub sum-fits : (a b : ℤ) → Abs a waveLimit → Abs b waveLimit → SumFits a b
-sum-fits a b h k = record {
-  first = omega zfits;
-  second = omega zfits;
-  sum = omega (zfits, at a ⊞ at b);
-  short = omega (zfits, at a ⊞ at b);
-}
+-- what a call hands back, as it is read
+pub returned : (z : ℤ) → mag z < 2 ^ 63 → toZ w64 (ofZ w64 z) ≡ z
+returned z h = toZ-ofZ (record { sfits = h })
 
-pub opposite-fits : (a : ℤ) → Abs a waveLimit → SFits w64 (pos 0 -ℤ a)
-opposite-fits a h = omega (zfits, at (pos 0) ⊟ at a)
+-- ---- one wave
 
-pub wave-fits : (a : ℤ) → Abs a waveLimit → SFits w64 a
-wave-fits a h = omega zfits
+module _ {z : ℤ} (h : Abs z waveLimit) where
+  pub limit-reads : toZ w64 (ofZ w64 z) ≡ z
+  limit-reads = toZ-ofZ (abs-fits h (omega arith))
+
+  opposite-is : pos 0 -ℤ toZ w64 (ofZ w64 z) ≡ negℤ z
+  opposite-is = rw limit-reads (+ℤ-idl (negℤ z))
+
+  pub opposite-fits : SFits w64 (pos 0 -ℤ toZ w64 (ofZ w64 z))
+  opposite-fits = rw opposite-is (abs-fits (abs-neg h) (omega arith))
+
+  pub opposite-reads : toZ w64 (ofZ w64 (pos 0 -ℤ toZ w64 (ofZ w64 z))) ≡ negℤ z
+  opposite-reads = toZ-ofZ opposite-fits ∙ opposite-is
+
+-- ---- two waves
+
+module _ {x y : ℤ} (h : Abs x waveLimit) (k : Abs y waveLimit) where
+  pub difference-range : Abs (x -ℤ y) (2 * waveLimit)
+  difference-range = omega (zarith, at x ⊟ at y)
+
+  pub difference-fits : SFits w64 (toZ w64 (ofZ w64 x) -ℤ toZ w64 (ofZ w64 y))
+  difference-fits = rw (limit-reads h, limit-reads k) (abs-fits difference-range (omega arith))
+
+  pub difference-reads : toZ w64 (ofZ w64 (toZ w64 (ofZ w64 x) -ℤ toZ w64 (ofZ w64 y))) ≡ x -ℤ y
+  difference-reads = toZ-ofZ difference-fits ∙ ap₂ _-ℤ_ (limit-reads h) (limit-reads k)
+
+  -- a sum of two fits 32 bits
+  pub sum-short : SFits w32 (x +ℤ y)
+  sum-short = omega (zfits, at x ⊞ at y)
+
+  pub sum-fits : SFits w64 (toZ w64 (ofZ w64 x) +ℤ toZ w64 (ofZ w64 y))
+  sum-fits = rw (limit-reads h, limit-reads k) (omega (zfits, at x ⊞ at y))
+
+  pub sum-reads : toZ w64 (ofZ w64 (toZ w64 (ofZ w64 x) +ℤ toZ w64 (ofZ w64 y))) ≡ x +ℤ y
+  sum-reads = toZ-ofZ sum-fits ∙ ap₂ _+ℤ_ (limit-reads h) (limit-reads k)

@@ -10,11 +10,11 @@ use lib.Seq.{ext-getD}
 use lib.IntN.{ℤ, pos, natAbs}
 use borrow.Author.Tests.{eqb-true, not-false}
 use Rattle.whole.specs.Order.{zarith, Abs, abs-parts}
-use Rattle.circuit.specs.Record.{partAt, isLeaf, isInput}
+use Rattle.circuit.specs.Record.{partAt, isLeaf, isInput, rowLimit}
 use Rattle.circuit.specs.Curve.{waveLimit}
 use Rattle.circuit.specs.SetUp.{preparedPart, preparedRows, ratioAt}
-use Rattle.circuit.specs.Sample.{rounded, sends, partSends, sent}
-use Rattle.circuit.specs.Run.{soundWave, storedWaves, call}
+use Rattle.circuit.specs.Sample.{rounded, sends, partSends, sent, storedAt}
+use Rattle.circuit.specs.Run.{soundWave, storedWavesRule, call}
 use Rattle.circuit.specs.declared.Element.{Element}
 use Rattle.circuit.specs.declared.Element.the-variants.{Resistor, Capacitor, Inductor, Input, Steady}
 use Rattle.circuit.specs.declared.Part.{Part}
@@ -25,9 +25,7 @@ use Rattle.laws.specs.Accepted.{Accepted}
 use Rattle.laws.proofs.Counting as Counting
 use Rattle.laws.proofs.Accepting.{accepting}
 use Rattle.laws.proofs.Running.{Allowed, zero-allowed}
-use Rattle.engine.specs.Wave.{counting}
 use Rattle.engine.specs.Plan.{Says, partTaken, ratioIn}
-use Rattle.engine.specs.Sweep.{waveAt}
 use Rattle.engine.specs.Sample.{Loaded}
 use Rattle.engine.specs.Play.{Playable}
 use Rattle.engine.proofs.Limits.{within-abs}
@@ -45,17 +43,17 @@ module _ {r : Record} {rows : List Prepared} {ws ins outs : List ℤ} (p : Playa
   pub equal : length ins ≡ length outs
   equal = allowed .equal
 
-  pub sound : (j : ℕ) → j < 31 → soundWave (partAt r j) (waveAt ws j) ≡ true
-  unfolding storedWaves
-  sound j l = not-false _ (Counting.lowest-passes _ 31 (allowed .waves) j l)
+  pub sound : (j : ℕ) → j < rowLimit → soundWave (partAt r j) (storedAt ws j) ≡ true
+  unfolding storedWavesRule
+  sound j l = not-false _ (Counting.lowest-passes _ rowLimit (allowed .waves) j l)
 
   -- the prepared ratio is the definition's
-  prepared-ratio : (j : ℕ) → j < 31 → ratioIn rows j ≡ preparedPart r j (partAt r j) .ratio
+  prepared-ratio : (j : ℕ) → j < rowLimit → ratioIn rows j ≡ preparedPart r j (partAt r j) .ratio
   unfolding preparedRows
-  prepared-ratio j l = rw (p .prepared) (ap (λ (x : Prepared). x .ratio) (Counting.getD-table (λ k. preparedPart r k (partAt r k)) 31 j _ l))
+  prepared-ratio j l = rw (p .prepared) (ap (λ (x : Prepared). x .ratio) (Counting.getD-table (λ k. preparedPart r k (partAt r k)) rowLimit j _ l))
 
   -- a word says of a part what it says with the definition's ratio
-  pub says : (j w : ℕ) → j < 31 → Says (partAt r j) (ratioIn rows j) w → Says (partAt r j) (ratioAt r j) w
+  pub says : (j w : ℕ) → j < rowLimit → Says (partAt r j) (ratioIn rows j) w → Says (partAt r j) (ratioAt r j) w
   unfolding Says
   says j w l = by (partAt r j) refl
     where
@@ -68,17 +66,7 @@ module _ {r : Record} {rows : List Prepared} {ws ins outs : List ℤ} (p : Playa
       by (Leaf (Steady v m)) e h = h
       by (Adaptor a) e h = rw (prepared-ratio j l ∙ ap (λ (q : Part). preparedPart r j q .ratio) e) at h
 
-  any-sends : (s z : ℤ) (q : Part) → partSends counting s z q ≡ partSends (rounded r) s z q
-  unfolding sends
-  any-sends s z Blank = refl
-  any-sends s z (Leaf (Resistor v)) = refl
-  any-sends s z (Leaf (Capacitor v)) = refl
-  any-sends s z (Leaf (Inductor v)) = refl
-  any-sends s z (Leaf (Input v)) = refl
-  any-sends s z (Leaf (Steady v m)) = refl
-  any-sends s z (Adaptor a) = refl
-
-  pub loaded : (ups : List ℤ) → (length ups ≡ 31) × ((j : ℕ) → j < 31 → waveAt ups j ≡ partSends counting (pos 0) (waveAt ws j) (partAt r j)) → Loaded r ws ups
+  pub loaded : (ups : List ℤ) → (length ups ≡ rowLimit) × ((j : ℕ) → j < rowLimit → storedAt ups j ≡ partSends rounded (pos 0) (storedAt ws j) (partAt r j)) → Loaded r ws ups
   unfolding sent
   loaded ups h =
       let short = accepted .short in
@@ -86,7 +74,7 @@ module _ {r : Record} {rows : List Prepared} {ws ins outs : List ℤ} (p : Playa
         size = p .stored;
         long = h .0;
         sound = sound;
-        leaves = λ j l e f. h .1 j (omega arith) ∙ any-sends (pos 0) (waveAt ws j) (partAt r j);
+        leaves = λ j l e f. h .1 j (omega arith);
       }
 
 -- ---- after
@@ -96,17 +84,17 @@ zero-is z e = let n = eqb-true (natAbs z) 0 e in omega (zarith, abs-parts z)
 
 module _ (r : Record) (acc : Accepted r) (ws ups : List ℤ) (loaded : Loaded r ws ups) where
   -- a row's stored wave, out of what it sends next
-  pub taken : (j : ℕ) → j < 31 → partTaken (partAt r j) (waveAt ups j) ≡ waveAt ws j
+  pub taken : (j : ℕ) → j < rowLimit → partTaken (partAt r j) (storedAt ups j) ≡ storedAt ws j
   unfolding sent sends
   taken j l = by (partAt r j) refl (loaded .sound j l)
     where
       inside : (y : Element) → partAt r j ≡ Leaf y → j < r .count
       inside y e = leaf-inside r acc j (ap isLeaf e)
 
-      held : (y : Element) → partAt r j ≡ Leaf y → isInput (Leaf y) ≡ false → waveAt ups j ≡ partSends (rounded r) (pos 0) (waveAt ws j) (Leaf y)
-      held y e f = loaded .leaves j (inside y e) (ap isLeaf e) (ap isInput e ∙ f) ∙ ap (partSends (rounded r) (pos 0) (waveAt ws j)) e
+      held : (y : Element) → partAt r j ≡ Leaf y → isInput (Leaf y) ≡ false → storedAt ups j ≡ partSends rounded (pos 0) (storedAt ws j) (Leaf y)
+      held y e f = loaded .leaves j (inside y e) (ap isLeaf e) (ap isInput e ∙ f) ∙ ap (partSends rounded (pos 0) (storedAt ws j)) e
 
-      by : (q : Part) → partAt r j ≡ q → soundWave q (waveAt ws j) ≡ true → partTaken q (waveAt ups j) ≡ waveAt ws j
+      by : (q : Part) → partAt r j ≡ q → soundWave q (storedAt ws j) ≡ true → partTaken q (storedAt ups j) ≡ storedAt ws j
       by Blank e h = sym (zero-is _ h)
       by (Leaf (Resistor v)) e h = sym (zero-is _ h)
       by (Leaf (Capacitor v)) e h = held (Capacitor v) e refl
@@ -118,10 +106,10 @@ module _ (r : Record) (acc : Accepted r) (ws ups : List ℤ) (loaded : Loaded r 
   none : (z : ℤ) → eqb (natAbs z) 0 ≡ true → Abs z waveLimit
   none z e = let n = eqb-true (natAbs z) 0 e in record { bound = omega arith }
 
-  pub limited : (j : ℕ) → j < 31 → Abs (waveAt ws j) waveLimit
+  pub limited : (j : ℕ) → j < rowLimit → Abs (storedAt ws j) waveLimit
   limited j l = by (partAt r j) (loaded .sound j l)
     where
-      by : (q : Part) → soundWave q (waveAt ws j) ≡ true → Abs (waveAt ws j) waveLimit
+      by : (q : Part) → soundWave q (storedAt ws j) ≡ true → Abs (storedAt ws j) waveLimit
       by Blank h = none _ h
       by (Leaf (Resistor v)) h = none _ h
       by (Leaf (Capacitor v)) h = within-abs waveLimit _ h
@@ -130,7 +118,7 @@ module _ (r : Record) (acc : Accepted r) (ws ups : List ℤ) (loaded : Loaded r 
       by (Leaf (Steady v m)) h = none _ h
       by (Adaptor a) h = none _ h
 
-  pub all-taken : (out : List ℤ) → (length out ≡ 31) × ((j : ℕ) → j < 31 → waveAt out j ≡ partTaken (partAt r j) (waveAt ups j)) → out ≡ ws
+  pub all-taken : (out : List ℤ) → (length out ≡ rowLimit) × ((j : ℕ) → j < rowLimit → storedAt out j ≡ partTaken (partAt r j) (storedAt ups j)) → out ≡ ws
   all-taken out h =
       let size = h .0 in
       ext-getD (pos 0) out ws (h .0 ∙ sym (loaded .size)) (λ j l. h .1 j (omega arith) ∙ taken j (omega arith))

@@ -1,117 +1,123 @@
--- How large the waves of an adaptor can be. Each is a rounded mixture of two sums of the waves that it gets, with the weights g and
--- W − g, and no wave stands twice in a sum: so none is larger than those waves together, and no step leaves 64 bits.
-use mathlib.Core.Path.{_≡_, refl, sym, subst}
-use mathlib.Core.List.{List, [], _∷_}
-use Prim.Native.Nat.{ℕ, zero, suc, _+_, _-_, _<_}
+-- How large waves can be, with any rounding that errs by at most one. Each wave that an adaptor sends is within one of a mixture of two sums of
+-- the waves that it gets, and no wave stands twice in a sum: so none is larger than those waves together and one more.
+use Prim.Native.Nat.{ℕ, _+_, _<_}
 use native.Mathlib.Omega.{arith}
-use lib.IntN.{ℤ, pos, _+ℤ_, _-ℤ_, _*ℤ_, negℤ, natAbs, +ℤ-idl}
-use lib.Signed.{shrZ}
+use mathlib.Core.Path.{_≡_, refl, sym}
+use mathlib.Core.List.{[], _∷_}
+use lib.IntN.{ℤ, pos, _+ℤ_, _-ℤ_, negℤ, +ℤ-idl}
 use mir.Syntax.{w64}
 use mir.Val.{SFits}
 use Rattle.whole.specs.Integers.{at, is-neg, _⊞_, _⊟_}
-use Rattle.whole.specs.Order.{zarith, Abs, abs-add, abs-neg, abs-mul, abs-as}
-use Rattle.whole.specs.Quotients.{Rounds, rounds-neg, rounds-add, rounds-bound, floor-rounds}
+use Rattle.whole.specs.Order.{zarith, Abs, abs-add, abs-neg, abs-as}
 use Rattle.whole.specs.Signed.{zfits}
-use Rattle.whole.specs.Ring.{var, _⊕_, _⊗_, _⊝_, ⊖, ring}
-use Rattle.circuit.specs.Sample.{h, sendsUp, sendsFirst, sendsSecond}
+use Rattle.whole.specs.Ring.{Exp, var, _⊕_, _⊝_, ⊖}
+use Rattle.whole.specs.Mirror.{Quot, parts as listed, fracE, wholeE, _⊕F_, ⊖F, _⊝F_, timesE, by}
+use Rattle.whole.specs.Fraction.{Fraction, whole, _≈_}
+use Rattle.whole.specs.Nearness.{Small, small-add, small-as, Near, near-whole, near-add, near-sub, near-neg, near-apart, mixture, mixtureE, small-mix}
+use Rattle.circuit.specs.Record.{Tree, leaf, adaptor}
+use Rattle.circuit.specs.Curve.{waveLimit}
+use Rattle.circuit.specs.SetUp.{parts}
+use Rattle.circuit.specs.Sample.{Arithmetic, Rounding, wholeWaves, rounded, h, sendsUp, sendsFirst, sendsSecond, up}
 use Rattle.circuit.specs.declared.Join.{Join}
 use Rattle.circuit.specs.declared.Join.the-variants.{Series, Parallel}
-use Rattle.engine.specs.Wave.{counting, Below, Beneath}
+use Rattle.laws.specs.Accepted.{adaptors}
+use Rattle.engine.specs.Wave.{mostAdaptors, upLimit, sumLimit, Below, Beneath}
+use Rattle.theorems.specs.Rounding.{ErrsByOne}
+use Rattle.theorems.proofs.Straying.{parts-above-zero}
+use Rattle.theorems.proofs.Bound.{rounded-down-errs}
 
--- ---- any two weights: b is z / (p + q) rounded, and z is a mixture of x and y
+-- ---- whole numbers near small fractions
 
-module _ (p q : ℕ) where
-  weight : (n : ℕ) → Abs (pos n) n
-  weight n = record { bound = omega arith }
+small-whole : {a : ℤ} {E : ℕ} → Abs a E → Small E (whole a)
+small-whole h = record { small = abs-as h refl (omega arith) }
 
-  mixed : (x y : ℤ) (e : ℕ) {b z : ℤ} → Rounds b z (p + q) → z ≡ pos p *ℤ x +ℤ pos q *ℤ y → Abs x e → Abs y e → Abs b e
-  mixed x y e m same hx hy =
-      rounds-bound m (abs-as (abs-add (abs-mul (weight p) hx) (abs-mul (weight q) hy)) (sym same) (omega arith))
+near-abs : {E F : ℕ} {a : ℤ} {q : Fraction} → Near E a q → Small F q → Abs a (E + F)
+near-abs {a = a} {q} h k =
+    let s = small-as {q = whole a} (record { same = by (listed (q ∷ []) (a ∷ [])) (wholeE (var 2) ⊝F fracE 0 ⊕F fracE 0) (wholeE (var 2)) refl })
+    (small-add (near-apart h) k) in
+    abs-as (s .small) refl (omega arith)
 
-  module _ (some : zero < p + q) (a1 a2 : ℤ) {e1 e2 : ℕ} (h1 : Abs a1 e1) (h2 : Abs a2 e2) where
-    -- the quotients that are rounded
-    abbrev D : ℤ
-    D = shrZ (pos p *ℤ (a1 -ℤ a2)) (p + q)
+-- ---- one adaptor, with ratio g
 
-    joined : Abs (a2 +ℤ D) (e1 + e2)
-    joined =
-        mixed a1 a2 (e1 + e2) (rounds-add a2 (floor-rounds (pos p *ℤ (a1 -ℤ a2)) (p + q) some))
-        (ring (pos p ∷ pos q ∷ a1 ∷ a2 ∷ []) (var 3 ⊗ (var 0 ⊕ var 1) ⊕ var 0 ⊗ (var 2 ⊝ var 3)) (var 0 ⊗ var 2 ⊕ var 1 ⊗ var 3) refl)
-        (abs-as h1 refl (omega arith)) (abs-as h2 refl (omega arith))
+-- for the solver, which has the ratio g / W before the waves
+abbrev G : Exp
+G = var 0
 
-    module _ (a3 : ℤ) {e3 : ℕ} (h3 : Abs a3 e3) where
-      abbrev S : ℤ
-      S = shrZ (pos p *ℤ (a1 +ℤ a2 +ℤ a3)) (p + q)
+abbrev W : Exp
+W = var 1
 
-      abbrev ρ : List ℤ
-      ρ = pos p ∷ pos q ∷ a1 ∷ a2 ∷ a3 ∷ D ∷ S ∷ []
+abbrev waveE : ℕ → Quot
+waveE i = wholeE (var i)
 
-      parallel-first : Abs (a2 +ℤ D +ℤ a3 -ℤ a1) (e1 + e2 + e3)
-      parallel-first =
-          abs-as
-          (mixed a3 (a2 +ℤ a3 -ℤ a1) (e1 + e2 + e3) (rounds-add (a2 +ℤ a3 -ℤ a1) (floor-rounds (pos p *ℤ (a1 -ℤ a2)) (p + q) some))
-          (ring ρ ((var 3 ⊕ var 4 ⊝ var 2) ⊗ (var 0 ⊕ var 1) ⊕ var 0 ⊗ (var 2 ⊝ var 3)) (var 0 ⊗ var 4 ⊕ var 1 ⊗ (var 3 ⊕ var 4 ⊝ var 2)) refl)
-          (abs-as h3 refl (omega arith)) (omega (zarith, at a2 ⊞ at a3 ⊟ at a1)))
-          (ring ρ ((var 3 ⊕ var 4 ⊝ var 2) ⊕ var 5) (var 3 ⊕ var 5 ⊕ var 4 ⊝ var 2) refl) (omega arith)
+abbrev joinedE : Quot → Quot → Quot
+joinedE p1 p2 = p2 ⊕F timesE G W (p1 ⊝F p2)
 
-      parallel-second : Abs (a2 +ℤ D +ℤ a3 -ℤ a2) (e1 + e2 + e3)
-      parallel-second =
-          abs-as
-          (mixed (a1 -ℤ a2 +ℤ a3) a3 (e1 + e2 + e3) (rounds-add a3 (floor-rounds (pos p *ℤ (a1 -ℤ a2)) (p + q) some))
-          (ring ρ (var 4 ⊗ (var 0 ⊕ var 1) ⊕ var 0 ⊗ (var 2 ⊝ var 3)) (var 0 ⊗ (var 2 ⊝ var 3 ⊕ var 4) ⊕ var 1 ⊗ var 4) refl)
-          (omega (zarith, at a1 ⊟ at a2 ⊞ at a3)) (abs-as h3 refl (omega arith)))
-          (ring ρ (var 4 ⊕ var 5) (var 3 ⊕ var 5 ⊕ var 4 ⊝ var 3) refl) (omega arith)
+abbrev partedE : Quot → Quot → Quot → Quot
+partedE p1 p2 p3 = p1 ⊝F timesE G W (p1 ⊕F p2 ⊕F p3)
 
-      series-first : Abs (a1 -ℤ S) (e1 + e2 + e3)
-      series-first =
-          mixed (negℤ (a2 +ℤ a3)) a1 (e1 + e2 + e3) (rounds-add a1 (rounds-neg (floor-rounds (pos p *ℤ (a1 +ℤ a2 +ℤ a3)) (p + q) some)))
-          (ring ρ (var 2 ⊗ (var 0 ⊕ var 1) ⊝ var 0 ⊗ (var 2 ⊕ var 3 ⊕ var 4)) (var 0 ⊗ ⊖ (var 3 ⊕ var 4) ⊕ var 1 ⊗ var 2) refl)
-          (omega (zarith, is-neg (at a2 ⊞ at a3))) (abs-as h1 refl (omega arith))
+module _ {ρ : Rounding} (errs : ErrsByOne ρ) where
+  abbrev 𝓡 : Arithmetic
+  𝓡 = wholeWaves ρ
 
-      series-second : Abs (negℤ (a3 +ℤ (a1 -ℤ S))) (e1 + e2 + e3)
-      series-second =
-          abs-as
-          (mixed a2 (negℤ (a1 +ℤ a3)) (e1 + e2 + e3) (rounds-add (negℤ (a1 +ℤ a3)) (floor-rounds (pos p *ℤ (a1 +ℤ a2 +ℤ a3)) (p + q) some))
-          (ring ρ (⊖ (var 2 ⊕ var 4) ⊗ (var 0 ⊕ var 1) ⊕ var 0 ⊗ (var 2 ⊕ var 3 ⊕ var 4)) (var 0 ⊗ var 3 ⊕ var 1 ⊗ ⊖ (var 2 ⊕ var 4)) refl)
-          (abs-as h2 refl (omega arith)) (omega (zarith, is-neg (at a1 ⊞ at a3))))
-          (ring ρ (⊖ (var 2 ⊕ var 4) ⊕ var 6) (⊖ (var 4 ⊕ (var 2 ⊝ var 6))) refl) (omega arith)
+  module _ (g : ℕ) (less : g < parts) where
+    -- a number within one of a fraction that mixes x and y
+    mixed : (x y : ℤ) {b : ℤ} {q : Fraction} {e : ℕ} → Near 1 b q → mixture g parts parts-above-zero (whole x) (whole y) ≈ q
+        → Abs x e → Abs y e → Abs b (e + 1)
+    mixed x y {e = e} near same hx hy =
+        abs-as (near-abs near (small-as same (small-mix g parts parts-above-zero (omega arith) (small-whole hx) (small-whole hy)))) refl (omega arith)
 
--- ---- the engine's adaptors
+    module _ {a1 a2 : ℤ} {e1 e2 : ℕ} (h1 : Abs a1 e1) (h2 : Abs a2 e2) where
+      pub up-range : (k : Join) → Abs (sendsUp 𝓡 k g a1 a2) (e1 + e2 + 1)
+      unfolding sendsUp
+      up-range Series = abs-as (abs-neg (abs-add h1 h2)) refl (omega arith)
+      up-range Parallel =
+          mixed a1 a2 (errs .u g a1 a2)
+          (record { same = by (pos g ∷ pos parts ∷ a1 ∷ a2 ∷ []) (mixtureE G W (waveE 2) (waveE 3)) (joinedE (waveE 2) (waveE 3)) refl })
+          (abs-as h1 refl (omega arith)) (abs-as h2 refl (omega arith))
 
-module _ (g : ℕ) (less : g < 16777216) {a1 a2 : ℤ} {e1 e2 : ℕ} (h1 : Abs a1 e1) (h2 : Abs a2 e2) where
-  all : g + (16777216 - g) ≡ 16777216
-  all = omega arith
+      module _ {a3 : ℤ} {e3 : ℕ} (h3 : Abs a3 e3) where
+        pub first-range : (k : Join) → Abs (sendsFirst 𝓡 k g a1 a2 a3) (e1 + e2 + e3 + 1)
+        unfolding sendsFirst
+        first-range Series =
+            mixed (negℤ (a2 +ℤ a3)) a1 (errs .b1 g a1 a2 a3)
+            (record {
+              same = by (pos g ∷ pos parts ∷ a1 ∷ a2 ∷ a3 ∷ []) (mixtureE G W (wholeE (⊖ (var 3 ⊕ var 4))) (waveE 2)) (partedE (waveE 2) (waveE 3) (waveE 4)) refl;
+            })
+            (omega (zarith, is-neg (at a2 ⊞ at a3))) (abs-as h1 refl (omega arith))
+        first-range Parallel =
+            mixed a3 (a2 +ℤ a3 -ℤ a1) (near-sub (near-add (errs .u g a1 a2) (near-whole a3)) (near-whole a1))
+            (record {
+              same = by (pos g ∷ pos parts ∷ a1 ∷ a2 ∷ a3 ∷ []) (mixtureE G W (waveE 4) (wholeE (var 3 ⊕ var 4 ⊝ var 2)))
+                  (joinedE (waveE 2) (waveE 3) ⊕F waveE 4 ⊝F waveE 2) refl;
+            })
+            (abs-as h3 refl (omega arith)) (omega (zarith, at a2 ⊞ at a3 ⊟ at a1))
 
-  some : zero < g + (16777216 - g)
-  some = omega arith
+        pub second-range : (k : Join) → Abs (sendsSecond 𝓡 k g a1 a2 a3) (e1 + e2 + e3 + 1)
+        unfolding sendsSecond
+        second-range Series =
+            mixed a2 (negℤ (a1 +ℤ a3)) (near-neg (near-add (near-whole a3) (errs .b1 g a1 a2 a3)))
+            (record {
+              same = by (pos g ∷ pos parts ∷ a1 ∷ a2 ∷ a3 ∷ []) (mixtureE G W (waveE 3) (wholeE (⊖ (var 2 ⊕ var 4))))
+                  (⊖F (waveE 4 ⊕F partedE (waveE 2) (waveE 3) (waveE 4))) refl;
+            })
+            (abs-as h2 refl (omega arith)) (omega (zarith, is-neg (at a1 ⊞ at a3)))
+        second-range Parallel =
+            mixed (a1 -ℤ a2 +ℤ a3) a3 (near-sub (near-add (errs .u g a1 a2) (near-whole a3)) (near-whole a2))
+            (record {
+              same = by (pos g ∷ pos parts ∷ a1 ∷ a2 ∷ a3 ∷ []) (mixtureE G W (wholeE (var 2 ⊝ var 3 ⊕ var 4)) (waveE 4))
+                  (joinedE (waveE 2) (waveE 3) ⊕F waveE 4 ⊝F waveE 3) refl;
+            })
+            (omega (zarith, at a1 ⊟ at a2 ⊞ at a3)) (abs-as h3 refl (omega arith))
 
-  pub up-range : (k : Join) → Abs (sendsUp counting k g a1 a2) (e1 + e2)
-  unfolding sendsUp h
-  up-range Series = abs-neg (abs-add h1 h2)
-  up-range Parallel = subst (λ W. Abs (a2 +ℤ shrZ (pos g *ℤ (a1 -ℤ a2)) W) (e1 + e2)) all (joined g (16777216 - g) some a1 a2 h1 h2)
+  -- ---- a tree whose leaves keep a wave's limit
 
-  module _ {a3 : ℤ} {e3 : ℕ} (h3 : Abs a3 e3) where
-    pub first-range : (k : Join) → Abs (sendsFirst counting k g a1 a2 a3) (e1 + e2 + e3)
-    unfolding sendsFirst h
-    first-range Series =
-        subst (λ W. Abs (a1 -ℤ shrZ (pos g *ℤ (a1 +ℤ a2 +ℤ a3)) W) (e1 + e2 + e3)) all (series-first g (16777216 - g) some a1 a2 h1 h2 a3 h3)
-    first-range Parallel =
-        subst (λ W. Abs (a2 +ℤ shrZ (pos g *ℤ (a1 -ℤ a2)) W +ℤ a3 -ℤ a1) (e1 + e2 + e3)) all
-        (parallel-first g (16777216 - g) some a1 a2 h1 h2 a3 h3)
-
-    pub second-range : (k : Join) → Abs (sendsSecond counting k g a1 a2 a3) (e1 + e2 + e3)
-    unfolding sendsSecond h
-    second-range Series =
-        subst (λ W. Abs (negℤ (a3 +ℤ (a1 -ℤ shrZ (pos g *ℤ (a1 +ℤ a2 +ℤ a3)) W))) (e1 + e2 + e3)) all
-        (series-second g (16777216 - g) some a1 a2 h1 h2 a3 h3)
-    second-range Parallel =
-        subst (λ W. Abs (a2 +ℤ shrZ (pos g *ℤ (a1 -ℤ a2)) W +ℤ a3 -ℤ a2) (e1 + e2 + e3)) all
-        (parallel-second g (16777216 - g) some a1 a2 h1 h2 a3 h3)
+  module _ (g : ℕ → ℕ) (w : ℕ → ℤ) (ratio : (j : ℕ) → g j < parts) (quiet : (j : ℕ) → Abs (w j) waveLimit) where
+    pub tree-range : (t : Tree) → Abs (up 𝓡 g w t) (upLimit (adaptors t))
+    unfolding up adaptors
+    tree-range (leaf j) = abs-as (quiet j) refl (omega arith)
+    tree-range (adaptor k j t1 t2) = abs-as (up-range (g j) (ratio j) (tree-range t1) (tree-range t2) k) refl (omega arith)
 
 -- ---- what the code's steps ask, and that they are the definition's
-
-abs-of : (z : ℤ) (e : ℕ) → natAbs z < suc e → Abs z e
-abs-of z e l = record { bound = omega arith }
 
 pub record UpFits (g : ℕ) (a1 a2 : ℤ) : Type 0 where
   pub first : SFits w64 a1
@@ -119,24 +125,24 @@ pub record UpFits (g : ℕ) (a1 a2 : ℤ) : Type 0 where
   pub sum : SFits w64 (a1 +ℤ a2)
   pub opposite : SFits w64 (pos 0 -ℤ (a1 +ℤ a2))
   pub apart : SFits w64 (a1 -ℤ a2)
-  pub distance : natAbs (a1 -ℤ a2) < 274877906944
-  pub joined : SFits w64 (a2 +ℤ h g (a1 -ℤ a2))
+  pub distance : Abs (a1 -ℤ a2) sumLimit
+  pub mix : SFits w64 (a2 +ℤ h g (a1 -ℤ a2))
 
 pub up-fits : (g : ℕ) (a1 a2 : ℤ) → Below g a1 a2 → UpFits g a1 a2
 unfolding sendsUp
 up-fits g a1 a2 b =
-    let h1 = abs-of a1 68719476735 (b .first) in
-    let h2 = abs-of a2 68719476735 (b .second) in
-    let apart : Abs (a1 -ℤ a2) 137438953470 = omega (zarith, at a1 ⊟ at a2) in
-    let up : Abs (a2 +ℤ h g (a1 -ℤ a2)) 137438953470 = up-range g (b .ratio) h1 h2 Parallel in
+    let h1 = b .first in
+    let h2 = b .second in
+    let apart : Abs (a1 -ℤ a2) sumLimit = omega (zarith, at a1 ⊟ at a2) in
+    let up : Abs (a2 +ℤ h g (a1 -ℤ a2)) (upLimit mostAdaptors + upLimit mostAdaptors + 1) = up-range rounded-down-errs g (b .ratio) h1 h2 Parallel in
     record {
       first = omega zfits;
       second = omega zfits;
       sum = omega (zfits, at a1 ⊞ at a2);
       opposite = omega (zfits, at (pos 0) ⊟ (at a1 ⊞ at a2));
       apart = omega zfits;
-      distance = omega arith;
-      joined = omega zfits;
+      distance = apart;
+      mix = omega zfits;
     }
 
 pub record DownFits (k : Join) (g : ℕ) (a1 a2 u a3 : ℤ) : Type 0 where
@@ -146,7 +152,7 @@ pub record DownFits (k : Join) (g : ℕ) (a1 a2 u a3 : ℤ) : Type 0 where
   pub third : SFits w64 a3
   pub two : SFits w64 (a1 +ℤ a2)
   pub three : SFits w64 (a1 +ℤ a2 +ℤ a3)
-  pub far : natAbs (a1 +ℤ a2 +ℤ a3) < 274877906944
+  pub far : Abs (a1 +ℤ a2 +ℤ a3) sumLimit
   pub split : SFits w64 (a1 -ℤ h g (a1 +ℤ a2 +ℤ a3))
   pub back : SFits w64 (a3 +ℤ (a1 -ℤ h g (a1 +ℤ a2 +ℤ a3)))
   pub turned : SFits w64 (pos 0 -ℤ (a3 +ℤ (a1 -ℤ h g (a1 +ℤ a2 +ℤ a3))))
@@ -157,13 +163,13 @@ pub record DownFits (k : Join) (g : ℕ) (a1 a2 u a3 : ℤ) : Type 0 where
 pub down-fits : (k : Join) (g : ℕ) (a1 a2 u a3 : ℤ) → Beneath k g a1 a2 u a3 → DownFits k g a1 a2 u a3
 unfolding sendsFirst
 down-fits k g a1 a2 u a3 b =
-    let h1 = abs-of a1 68719476735 (b .below .first) in
-    let h2 = abs-of a2 68719476735 (b .below .second) in
-    let h3 = abs-of a3 137438953471 (b .above) in
-    let hu : Abs u 137438953470 = abs-as (up-range g (b .below .ratio) h1 h2 k) (sym (b .sent)) (omega arith) in
-    let far : Abs (a1 +ℤ a2 +ℤ a3) 274877906941 = omega (zarith, at a1 ⊞ at a2 ⊞ at a3) in
+    let h1 = b .below .first in
+    let h2 = b .below .second in
+    let h3 = b .above in
+    let hu : Abs u sumLimit = abs-as (up-range rounded-down-errs g (b .below .ratio) h1 h2 k) (sym (b .sent)) (omega arith) in
+    let far : Abs (a1 +ℤ a2 +ℤ a3) sumLimit = omega (zarith, at a1 ⊞ at a2 ⊞ at a3) in
     let s = a1 -ℤ h g (a1 +ℤ a2 +ℤ a3) in
-    let hs : Abs (a1 -ℤ h g (a1 +ℤ a2 +ℤ a3)) 274877906941 = first-range g (b .below .ratio) h1 h2 h3 Series in
+    let hs : Abs (a1 -ℤ h g (a1 +ℤ a2 +ℤ a3)) (sumLimit + 1) = abs-as (first-range rounded-down-errs g (b .below .ratio) h1 h2 h3 Series) refl (omega arith) in
     record {
       first = omega zfits;
       second = omega zfits;
@@ -171,7 +177,7 @@ down-fits k g a1 a2 u a3 b =
       third = omega zfits;
       two = omega (zfits, at a1 ⊞ at a2);
       three = omega zfits;
-      far = omega arith;
+      far = far;
       split = omega zfits;
       back = omega (zfits, at a3 ⊞ at s);
       turned = omega (zfits, at (pos 0) ⊟ (at a3 ⊞ at s));
@@ -181,28 +187,28 @@ down-fits k g a1 a2 u a3 b =
     }
 
 module _ {k : Join} (g : ℕ) (a1 a2 : ℤ) where
-  pub series-up : k ≡ Series → sendsUp counting k g a1 a2 ≡ pos 0 -ℤ (a1 +ℤ a2)
+  pub series-up : k ≡ Series → sendsUp rounded k g a1 a2 ≡ pos 0 -ℤ (a1 +ℤ a2)
   unfolding sendsUp
   series-up e = rw e (sym (+ℤ-idl (negℤ (a1 +ℤ a2))))
 
-  pub parallel-up : k ≡ Parallel → sendsUp counting k g a1 a2 ≡ a2 +ℤ h g (a1 -ℤ a2)
+  pub parallel-up : k ≡ Parallel → sendsUp rounded k g a1 a2 ≡ a2 +ℤ h g (a1 -ℤ a2)
   unfolding sendsUp
   parallel-up e = rw e
 
   module _ (a3 : ℤ) where
-    pub series-to-first : k ≡ Series → sendsFirst counting k g a1 a2 a3 ≡ a1 -ℤ h g (a1 +ℤ a2 +ℤ a3)
+    pub series-to-first : k ≡ Series → sendsFirst rounded k g a1 a2 a3 ≡ a1 -ℤ h g (a1 +ℤ a2 +ℤ a3)
     unfolding sendsFirst
     series-to-first e = rw e
 
-    pub series-to-second : k ≡ Series → sendsSecond counting k g a1 a2 a3 ≡ pos 0 -ℤ (a3 +ℤ (a1 -ℤ h g (a1 +ℤ a2 +ℤ a3)))
+    pub series-to-second : k ≡ Series → sendsSecond rounded k g a1 a2 a3 ≡ pos 0 -ℤ (a3 +ℤ (a1 -ℤ h g (a1 +ℤ a2 +ℤ a3)))
     unfolding sendsSecond
     series-to-second e = rw e (sym (+ℤ-idl (negℤ (a3 +ℤ (a1 -ℤ h g (a1 +ℤ a2 +ℤ a3))))))
 
-    module _ {u : ℤ} (up : u ≡ sendsUp counting k g a1 a2) where
-      pub parallel-to-first : k ≡ Parallel → sendsFirst counting k g a1 a2 a3 ≡ u +ℤ a3 -ℤ a1
+    module _ {u : ℤ} (up : u ≡ sendsUp rounded k g a1 a2) where
+      pub parallel-to-first : k ≡ Parallel → sendsFirst rounded k g a1 a2 a3 ≡ u +ℤ a3 -ℤ a1
       unfolding sendsFirst sendsUp
       parallel-to-first e = rw (up, e)
 
-      pub parallel-to-second : k ≡ Parallel → sendsSecond counting k g a1 a2 a3 ≡ u +ℤ a3 -ℤ a2
+      pub parallel-to-second : k ≡ Parallel → sendsSecond rounded k g a1 a2 a3 ≡ u +ℤ a3 -ℤ a2
       unfolding sendsSecond sendsUp
       parallel-to-second e = rw (up, e)

@@ -12,7 +12,7 @@ use lib.Seq.{getD-set-same, getD-set-other}
 use borrow.Author.Count.{below-more}
 use Rattle.circuit.specs.Counting.{total, one}
 use Rattle.laws.proofs.Counting as Counting
-use Rattle.engine.specs.Plan.{rank, Lists, enteredIf}
+use Rattle.engine.specs.Plan.{rank, Ranked, enteredIf}
 use Rattle.engine.specs.declared.plan.Listed.{Listed}
 
 one-most : (b : Bool) → one b ≤ 1
@@ -56,12 +56,12 @@ module _ (p : ℕ → Bool) where
 
 -- ---- the list, row by row
 
-pub lists-none : (p : ℕ → Bool) (rows : List ℕ) → Lists p 0 rows 0
+pub ranked-none : (p : ℕ → Bool) (rows : List ℕ) → Ranked p 0 rows 0
 unfolding rank total
-lists-none p rows = record { all = refl; each = λ j l e. absurd (omega arith) }
+ranked-none p rows = record { all = refl; each = λ j l e. absurd (omega arith) }
 
-module _ (p : ℕ → Bool) (i : ℕ) (l : Listed) (inside : i < length (l .rows)) (lists : Lists p i (l .rows) (l .length)) where
-  with-row : p i ≡ true → Lists p (i + 1) (set (l .rows) (l .length) i) (l .length + 1)
+module _ (p : ℕ → Bool) (i : ℕ) (l : Listed) (inside : i < length (l .rows)) (lists : Ranked p i (l .rows) (l .length)) where
+  with-row : p i ≡ true → Ranked p (i + 1) (set (l .rows) (l .length) i) (l .length + 1)
   with-row e =
       let place = lists .all in
       let room : l .length < length (l .rows) = omega (arith, rank-below p i) in
@@ -74,15 +74,15 @@ module _ (p : ℕ → Bool) (i : ℕ) (l : Listed) (inside : i < length (l .rows
             (λ y. rw (← place) (getD-set-same (l .rows) (l .length) i 0 room));
       }
 
-  without-row : p i ≡ false → Lists p (i + 1) (l .rows) (l .length)
+  without-row : p i ≡ false → Ranked p (i + 1) (l .rows) (l .length)
   without-row e = record {
     all = omega (arith, rank-step p i, ap one e, lists .all);
     each = below-more (λ j. p j ≡ true → getD (l .rows) (rank p j) 0 ≡ j) i (lists .each) (λ y. cc);
   }
 
-  pub lists-more : (b : Bool) → p i ≡ b → Lists p (i + 1) (enteredIf b i l .rows) (enteredIf b i l .length)
-  lists-more true e = with-row e
-  lists-more false e = without-row e
+  pub ranked-more : (b : Bool) → p i ≡ b → Ranked p (i + 1) (enteredIf b i l .rows) (enteredIf b i l .length)
+  ranked-more true e = with-row e
+  ranked-more false e = without-row e
 
 pub entered-long : (b : Bool) (i : ℕ) (l : Listed) → length (enteredIf b i l .rows) ≡ length (l .rows)
 entered-long true i l = length-set (l .rows) (l .length) i
@@ -96,7 +96,7 @@ pub record Place (p : ℕ → Bool) (n : ℕ) (rows : List ℕ) (k : ℕ) : Type
   pub rank : rank p row ≡ k
   pub listed : getD rows k 0 ≡ row
 
-module _ {p : ℕ → Bool} {n : ℕ} {rows : List ℕ} {size : ℕ} (lists : Lists p n rows size) where
+module _ {p : ℕ → Bool} {n : ℕ} {rows : List ℕ} {size : ℕ} (lists : Ranked p n rows size) where
   pub place : (k : ℕ) → k < size → Place p n rows k
   place k l =
       let w = rank-at p n k (subst (λ (m : ℕ). k < m) (lists .all) l) in
@@ -109,8 +109,8 @@ module _ {p : ℕ → Bool} {n : ℕ} {rows : List ℕ} {size : ℕ} (lists : Li
       }
 
   -- every chosen row has its place
-  pub placed : (j : ℕ) → j < n → p j ≡ true → rank p j < size
-  placed j l e = omega (arith, lists .all, rank-rises p j n l e)
+  pub has-place : (j : ℕ) → j < n → p j ≡ true → rank p j < size
+  has-place j l e = omega (arith, lists .all, rank-rises p j n l e)
 
   pub size-most : size ≤ n
   size-most = omega (arith, lists .all, rank-below p n)

@@ -10,20 +10,17 @@ use lib.Dec.{T, eqb→eq}
 use lib.ListN.{length, set, length-set}
 use lib.Seq.{getD-set-same}
 use lib.IntN.{ℤ, pos}
-use Rattle.circuit.specs.Record.{partAt, Tree, leaf, adaptor, treeAt}
+use Rattle.circuit.specs.Record.{partAt, Tree, leaf, adaptor, treeAt, rowLimit, isAdaptor}
 use Rattle.circuit.specs.SetUp.{ratioAt}
-use Rattle.circuit.specs.Sample.{rounded, sendsFirst, sendsSecond, reach, holds}
-use Rattle.circuit.specs.File.{noRecord}
+use Rattle.circuit.specs.Sample.{rounded, sendsFirst, sendsSecond, reach, holds, storedAt}
 use Rattle.circuit.specs.declared.Join.{Join}
 use Rattle.circuit.specs.declared.Adaptor.{Adaptor as Joint}
 use Rattle.circuit.specs.declared.Part.the-variants.{Adaptor}
 use Rattle.circuit.specs.declared.Record.{Record}
 use Rattle.laws.proofs.Trees as Trees
-use Rattle.engine.specs.Plan.{isAdaptor}
-use Rattle.engine.specs.Sweep.{waveAt}
 use Rattle.engine.proofs.Ranks.{rank-rises}
-use Rattle.engine.proofs.Stages.{any-first, any-second, leaf-or-adaptor, children-lower, Lined}
-use Rattle.engine.proofs.Climb.{rises}
+use Rattle.engine.proofs.Stages.{leaf-or-adaptor, children-lower, Lined}
+use Rattle.engine.proofs.Climb.{treeSends}
 use Rattle.engine.proofs.Fall.{Falling}
 
 -- which of two trees holds the leaf
@@ -41,7 +38,7 @@ holds-either t k i t1 t2 j e h = subst (λ (x : Tree). T (holds x j)) e h
 
 module _ {r : Record} {words rows : List ℕ} {n : ℕ} (lined : Lined r words rows n) (ups : List ℤ) where
   -- no adaptor has sent
-  pub falling-begun : (top : ℤ) (ds : List ℤ) → length ds ≡ 31 → Falling lined ups top n (set ds (r .count - 1) top)
+  pub falling-begun : (top : ℤ) (ds : List ℤ) → length ds ≡ rowLimit → Falling lined ups top n (set ds (r .count - 1) top)
   falling-begun top ds long =
       let short = lined .accepted .short in
       let some = lined .accepted .some in
@@ -52,37 +49,37 @@ module _ {r : Record} {words rows : List ℕ} {n : ℕ} (lined : Lined r words r
             absurd (omega (arith, lined .lists .all, rank-rises (λ i. isAdaptor (partAt r i)) p (r .count) l (ap isAdaptor e)));
       }
 
-  module _ (w : ℕ → ℤ) (right : (j : ℕ) → j < r .count → waveAt ups j ≡ rises r w j) (top : ℤ) (ds : List ℤ)
+  module _ (w : ℕ → ℤ) (right : (j : ℕ) → j < r .count → storedAt ups j ≡ treeSends r w j) (top : ℤ) (ds : List ℤ)
       (falling : Falling lined ups top 0 ds) where
     abbrev reaches : ℕ → ℤ → ℕ → ℤ
-    reaches i a3 j = reach (rounded r) (ratioAt r) w (treeAt r i) a3 j
+    reaches i a3 j = reach rounded (ratioAt r) w (treeAt r i) a3 j
 
     -- every depth d above i is enough
-    pub reached : (d i : ℕ) → i < d → i < r .count → (j : ℕ) → T (holds (treeAt r i) j) → waveAt ds j ≡ reaches i (waveAt ds i) j
+    pub reached : (d i : ℕ) → i < d → i < r .count → (j : ℕ) → T (holds (treeAt r i) j) → storedAt ds j ≡ reaches i (storedAt ds i) j
     reached zero i h l j held = absurd (let none : ⊥ = omega arith in none)
     reached (suc d) i h l j held =
         ⊎-elim
         (λ x.
         let t = Trees.tree-leaf r (lined .accepted .lower) i (x .0) (x .1) in
-        sym (ap (waveAt ds) (holds-one (treeAt r i) i j t held)) ∙ sym (Trees.reach-leaf r (lined .accepted .lower) i t (rounded r) (ratioAt r) w (waveAt ds i) j))
+        sym (ap (storedAt ds) (holds-one (treeAt r i) i j t held)) ∙ sym (Trees.reach-leaf r (lined .accepted .lower) i t rounded (ratioAt r) w (storedAt ds i) j))
         (λ x. joint (x .0) (x .1) (reached d))
         (leaf-or-adaptor (partAt r i) (lined .accepted .present i l))
       where
         joint : (a : Joint) → partAt r i ≡ Adaptor a
-            → ((c : ℕ) → c < d → c < r .count → (k : ℕ) → T (holds (treeAt r c) k) → waveAt ds k ≡ reaches c (waveAt ds c) k)
-            → waveAt ds j ≡ reaches i (waveAt ds i) j
+            → ((c : ℕ) → c < d → c < r .count → (k : ℕ) → T (holds (treeAt r c) k) → storedAt ds k ≡ reaches c (storedAt ds c) k)
+            → storedAt ds j ≡ reaches i (storedAt ds i) j
         joint a e deeper =
             let lower = children-lower r (lined .accepted) i a e in
             let sends = falling .sends i a l e (omega arith) in
             let first = right (a .first) (omega arith) in
             let second = right (a .second) (omega arith) in
-            let a1 = rises r w (a .first) in
-            let a2 = rises r w (a .second) in
-            let to-first : waveAt ds (a .first) ≡ sendsFirst (rounded r) (a .join) (ratioAt r i) a1 a2 (waveAt ds i) =
-            sends .first ∙ rw (first, second) (any-first noRecord r (ratioAt r i) a1 a2 (waveAt ds i) (a .join)) in
-            let to-second : waveAt ds (a .second) ≡ sendsSecond (rounded r) (a .join) (ratioAt r i) a1 a2 (waveAt ds i) =
-            sends .second ∙ rw (first, second) (any-second noRecord r (ratioAt r i) a1 a2 (waveAt ds i) (a .join)) in
+            let a1 = treeSends r w (a .first) in
+            let a2 = treeSends r w (a .second) in
+            let to-first : storedAt ds (a .first) ≡ sendsFirst rounded (a .join) (ratioAt r i) a1 a2 (storedAt ds i) =
+            sends .first ∙ rw (first, second) in
+            let to-second : storedAt ds (a .second) ≡ sendsSecond rounded (a .join) (ratioAt r i) a1 a2 (storedAt ds i) =
+            sends .second ∙ rw (first, second) in
             choose (holds (treeAt r (a .first)) j) (holds (treeAt r (a .second)) j) (holds-either (treeAt r i) (a .join) i _ _ j (Trees.tree-adaptor r (lined .accepted .lower) i a e) held)
             (λ x. deeper (a .first) (omega arith) (omega arith) j x ∙ ap (λ z. reaches (a .first) z j) to-first)
             (λ x. deeper (a .second) (omega arith) (omega arith) j x ∙ ap (λ z. reaches (a .second) z j) to-second)
-            ∙ sym (Trees.reach-adaptor r (lined .accepted .lower) i a e (rounded r) (ratioAt r) w (waveAt ds i) j)
+            ∙ sym (Trees.reach-adaptor r (lined .accepted .lower) i a e rounded (ratioAt r) w (storedAt ds i) j)

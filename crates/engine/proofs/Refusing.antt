@@ -7,10 +7,10 @@ use mathlib.Core.Path.{_≡_, refl, sym, _∙_}
 use mathlib.Core.List.{List, [], _∷_}
 use Rattle.circuit.specs.Numbers.{handed, Verdict, passes, fails, Rule, rule, judge}
 use Rattle.circuit.specs.SetUp.{setUpReport}
-use Rattle.circuit.specs.Run.{Call, storedWaves, lengths, runRules}
+use Rattle.circuit.specs.Run.{Call, storedWavesRule, lengthsRule, runRules}
 use Rattle.circuit.specs.declared.Answer.{Answer}
 use Rattle.laws.proofs.Judging.{judge-pass, judge-fail, set-up-done}
-use Rattle.laws.proofs.Running.{judge-set-up, judge-after}
+use Rattle.laws.proofs.Running.{afterSetUp, judge-set-up, judge-after}
 use Rattle.setup.specs.Answers.{numbered}
 use Rattle.setup.proofs.Chain.{last-judges}
 
@@ -27,19 +27,23 @@ numbered-above n check rs x = by (check x) refl
     by passes e l = absurd (lt-irrefl 0 l)
     by (fails p) e l = sym (judge-fail (rule n check) rs x p e)
 
+-- rule 12, of a call
+abbrev stored : Call → Verdict
+stored c = storedWavesRule (c .circuit) (c .waves)
+
 module _ (c : Call) (set : Answer) (e : handed set ≡ setUpReport (c .circuit)) where
   pub by-set-up : (handed set .number ≡ 0 → ⊥) → handed set ≡ judge runRules c
   by-set-up n = e ∙ sym (judge-set-up c (rw (← e) (omega arith)))
 
-  module _ (z : handed set .number ≡ 0) (waves : Answer) (f : handed waves ≡ numbered 12 (storedWaves c)) where
-    after : judge runRules c ≡ judge (rule 12 storedWaves ∷ rule 13 lengths ∷ []) c
+  module _ (z : handed set .number ≡ 0) (waves : Answer) (f : handed waves ≡ numbered 12 (stored c)) where
+    after : judge runRules c ≡ judge afterSetUp c
     after = judge-after c (set-up-done (c .circuit) (rw e at z))
 
     pub by-waves : (handed waves .number ≡ 0 → ⊥) → handed waves ≡ judge runRules c
-    by-waves n = f ∙ numbered-above 12 storedWaves (rule 13 lengths ∷ []) c (rw (← f) (omega arith)) ∙ sym after
+    by-waves n = f ∙ numbered-above 12 stored (rule 13 lengthsRule ∷ []) c (rw (← f) (omega arith)) ∙ sym after
 
-    pub by-lengths : handed waves .number ≡ 0 → (last : Answer) → handed last ≡ numbered 13 (lengths c) → handed last ≡ judge runRules c
+    pub by-lengths : handed waves .number ≡ 0 → (last : Answer) → handed last ≡ numbered 13 (lengthsRule c) → handed last ≡ judge runRules c
     by-lengths w last l =
-        last-judges 13 lengths c last l
-        ∙ sym (judge-pass (rule 12 storedWaves) (rule 13 lengths ∷ []) c (numbered-zero 11 (storedWaves c) (rw f at w)))
+        last-judges 13 lengthsRule c last l
+        ∙ sym (judge-pass (rule 12 stored) (rule 13 lengthsRule ∷ []) c (numbered-zero 11 (stored c) (rw f at w)))
         ∙ sym after

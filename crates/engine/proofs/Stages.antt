@@ -1,45 +1,24 @@
--- The adaptors of a record in the order of their rows: the one at place k of the list, and what its word says. What an adaptor does is the
--- same for every record.
-use Prim.Native.Nat.{ℕ, _<_}
+-- The adaptors of a record in the order of their rows: the one at place k of the list, and what its word says.
+use Prim.Native.Nat.{ℕ, suc, _+_, _<_, _≤_}
 use native.Mathlib.Omega.{arith}
 use mathlib.Core.Path.{_≡_, refl, sym, ap, _∙_, subst}
 use mathlib.Core.Bool.{true, false, true≢false}
 use mathlib.Core.Logic.{_⊎_, inl, inr}
 use mathlib.Core.List.{List}
 use lib.ListN.{getD}
-use lib.IntN.{ℤ}
-use Rattle.circuit.specs.Record.{partAt, isBlank}
+use Rattle.circuit.specs.Record.{partAt, treeAt, isBlank, rowLimit, isAdaptor, adaptorsOf}
 use Rattle.circuit.specs.SetUp.{ratioAt}
-use Rattle.circuit.specs.Sample.{rounded, sendsUp, sendsFirst, sendsSecond}
 use Rattle.circuit.specs.declared.Element.{Element}
-use Rattle.circuit.specs.declared.Join.{Join}
-use Rattle.circuit.specs.declared.Join.the-variants.{Series, Parallel}
 use Rattle.circuit.specs.declared.Adaptor.{Adaptor as Joint}
 use Rattle.circuit.specs.declared.Part.{Part}
 use Rattle.circuit.specs.declared.Part.the-variants.{Blank, Leaf, Adaptor}
 use Rattle.circuit.specs.declared.Record.{Record}
-use Rattle.laws.specs.Accepted.{Lower, Accepted}
-use Rattle.engine.specs.Plan.{isAdaptor, rank, linkFor, Says, Lists}
+use Rattle.laws.specs.Accepted.{Lower, adaptors, Accepted}
+use Rattle.laws.proofs.Trees.{tree-adaptor}
+use Rattle.engine.specs.Wave.{mostAdaptors}
+use Rattle.engine.specs.Plan.{rank, linkFor, Says, Ranked}
 use Rattle.engine.specs.Sweep.{linkAt}
 use Rattle.engine.proofs.Ranks.{place}
-
--- ---- for every record
-
-module _ (r s : Record) (g : ℕ) (a1 a2 : ℤ) where
-  pub any-up : (k : Join) → sendsUp (rounded r) k g a1 a2 ≡ sendsUp (rounded s) k g a1 a2
-  unfolding sendsUp
-  any-up Series = refl
-  any-up Parallel = refl
-
-  pub any-first : (a3 : ℤ) (k : Join) → sendsFirst (rounded r) k g a1 a2 a3 ≡ sendsFirst (rounded s) k g a1 a2 a3
-  unfolding sendsFirst
-  any-first a3 Series = refl
-  any-first a3 Parallel = refl
-
-  pub any-second : (a3 : ℤ) (k : Join) → sendsSecond (rounded r) k g a1 a2 a3 ≡ sendsSecond (rounded s) k g a1 a2 a3
-  unfolding sendsSecond
-  any-second a3 Series = refl
-  any-second a3 Parallel = refl
 
 -- ---- a row that is in use is a leaf or an adaptor
 
@@ -58,6 +37,14 @@ pub children-lower : (r : Record) → Accepted r → (j : ℕ) (a : Joint) → p
 unfolding Lower
 children-lower r acc j a e = subst (Lower j) e (acc .lower j)
 
+-- and make, with it, no more adaptors than there can be
+pub children-few : (r : Record) → Accepted r → (j : ℕ) (a : Joint) → j < r .count → partAt r j ≡ Adaptor a
+    → suc (adaptors (treeAt r (a .first)) + adaptors (treeAt r (a .second))) ≤ mostAdaptors
+unfolding adaptors
+children-few r acc j a l e =
+    let all = ap adaptors (tree-adaptor r (acc .lower) j a e) in
+    omega (arith, acc .partly j l, acc .odd, acc .short)
+
 -- ---- by place
 
 abbrev pub adaptorRank : Record → ℕ → ℕ
@@ -72,11 +59,16 @@ pub record Stage (r : Record) (words rows : List ℕ) (k : ℕ) : Type 0 where
   pub listed : getD rows k 0 ≡ row
   pub link : linkAt words row ≡ linkFor joint (ratioAt r row)
 
+-- a list of all adaptors is no longer than there can be
+pub adaptors-most : (r : Record) → Accepted r → {rows : List ℕ} {n : ℕ} → Ranked (λ j. isAdaptor (partAt r j)) (r .count) rows n → n ≤ mostAdaptors
+unfolding adaptorsOf rank
+adaptors-most r acc lists = omega (arith, lists .all, acc .odd, acc .short)
+
 -- The list has the adaptors of an accepted record, and the words say what they are.
 pub record Lined (r : Record) (words rows : List ℕ) (n : ℕ) : Type 0 where
   pub accepted : Accepted r
-  pub says : (j : ℕ) → j < 31 → Says (partAt r j) (ratioAt r j) (getD words j 0)
-  pub lists : Lists (λ j. isAdaptor (partAt r j)) (r .count) rows n
+  pub says : (j : ℕ) → j < rowLimit → Says (partAt r j) (ratioAt r j) (getD words j 0)
+  pub lists : Ranked (λ j. isAdaptor (partAt r j)) (r .count) rows n
 
 module _ {r : Record} {words rows : List ℕ} {n : ℕ} (lined : Lined r words rows n) where
   pub stage-at : (k : ℕ) → k < n → Stage r words rows k
@@ -91,5 +83,5 @@ module _ {r : Record} {words rows : List ℕ} {n : ℕ} (lined : Lined r words r
       record { row = w .row; joint = j .0; inside = w .inside; part = j .1; place = w .rank; listed = w .listed; link = said }
 
   -- a row at a stage's place is its row
-  pub same-place : (k : ℕ) (s : Stage r words rows k) (j : ℕ) → j < r .count → isAdaptor (partAt r j) ≡ true → adaptorRank r j ≡ k → j ≡ s .row
-  same-place k s j l e p = sym (lined .lists .each j l e) ∙ ap (λ m. getD rows m 0) p ∙ s .listed
+  pub row-there : (k : ℕ) (s : Stage r words rows k) (j : ℕ) → j < r .count → isAdaptor (partAt r j) ≡ true → adaptorRank r j ≡ k → j ≡ s .row
+  row-there k s j l e p = sym (lined .lists .each j l e) ∙ ap (λ m. getD rows m 0) p ∙ s .listed

@@ -8,7 +8,7 @@ use lib.IntN.{ℤ, pos}
 use lib.ListN.{getD, set}
 use lib.Ieee.{nan}
 use Rattle.circuit.specs.Counting.{total, one}
-use Rattle.circuit.specs.Record.{partAt, isLeaf}
+use Rattle.circuit.specs.Record.{partAt, isLeaf, rowLimit, isAdaptor}
 use Rattle.circuit.specs.SetUp.{ratioAt}
 use Rattle.circuit.specs.Run.{isReactive}
 use Rattle.circuit.specs.declared.Element.{Element}
@@ -18,7 +18,6 @@ use Rattle.circuit.specs.declared.Join.the-variants.{Series, Parallel}
 use Rattle.circuit.specs.declared.Adaptor.{Adaptor as Joint}
 use Rattle.circuit.specs.declared.Part.{Part}
 use Rattle.circuit.specs.declared.Part.the-variants.{Blank, Leaf, Adaptor}
-use Rattle.circuit.specs.declared.Row.{Row}
 use Rattle.circuit.specs.declared.Prepared.{Prepared}
 use Rattle.circuit.specs.declared.Record.{Record}
 use Rattle.engine.specs.declared.plan.Listed.{Listed}
@@ -65,11 +64,6 @@ partTaken (Adaptor a) w = pos 0
 
 -- ---- lists of rows
 
-abbrev pub isAdaptor : Part → Bool
-isAdaptor Blank = false
-isAdaptor (Leaf e) = false
-isAdaptor (Adaptor a) = true
-
 abbrev pub isReactivePart : Part → Bool
 isReactivePart Blank = false
 isReactivePart (Leaf e) = isReactive e
@@ -79,9 +73,6 @@ abbrev pub chosenBy : Choice → Part → Bool
 chosenBy Adaptors p = isAdaptor p
 chosenBy Leaves p = isLeaf p
 chosenBy Reactive p = isReactivePart p
-
-abbrev pub partIn : List Row → ℕ → Part
-partIn rows j = getD rows j (record { part = Blank }) .part
 
 abbrev pub ratioIn : List Prepared → ℕ → ℕ
 ratioIn rows j = getD rows j (record { resistance = nan; ratio = 0 }) .ratio
@@ -95,14 +86,14 @@ unfoldable pub rank : (ℕ → Bool) → ℕ → ℕ
 rank p n = total (λ j. one (p j)) n
 
 -- the chosen rows below n, in rising order
-pub record Lists (p : ℕ → Bool) (n : ℕ) (rows : List ℕ) (size : ℕ) : Type 0 where
+pub record Ranked (p : ℕ → Bool) (n : ℕ) (rows : List ℕ) (size : ℕ) : Type 0 where
   pub all : size ≡ rank p n
   pub each : (j : ℕ) → j < n → p j ≡ true → getD rows (rank p j) 0 ≡ j
 
 -- ---- the plan of a record: the words, and lists of `n` adaptors, `m` leaves and `q` reactive rows
 
 pub record Planned (r : Record) (words rows : List ℕ) (n : ℕ) (ends : List ℕ) (m : ℕ) (stores : List ℕ) (q : ℕ) : Type 0 where
-  pub says : (j : ℕ) → j < 31 → Says (partAt r j) (ratioAt r j) (getD words j 0)
-  pub adaptors : Lists (λ j. isAdaptor (partAt r j)) (r .count) rows n
-  pub leaves : Lists (λ j. isLeaf (partAt r j)) (r .count) ends m
-  pub reactive : Lists (λ j. isReactivePart (partAt r j)) (r .count) stores q
+  pub says : (j : ℕ) → j < rowLimit → Says (partAt r j) (ratioAt r j) (getD words j 0)
+  pub adaptors : Ranked (λ j. isAdaptor (partAt r j)) (r .count) rows n
+  pub leaves : Ranked (λ j. isLeaf (partAt r j)) (r .count) ends m
+  pub reactive : Ranked (λ j. isReactivePart (partAt r j)) (r .count) stores q

@@ -1,12 +1,13 @@
 // The diode's answer to a wave: which segment of the drawn curve the wave falls in, and the straight line there. All numbers are whole
 // microvolts; a column's and a wave's keep 2^26, so no product reaches 2^55. The columns in use come as two lists, laid out once for a run.
-ghost use Prim.Native.Nat.{_^_};
 ghost use mathlib.Core.Path.{_≡_};
 ghost use mathlib.Core.List.{map};
 ghost use Rattle.whole.specs.Order.{Abs};
-ghost use Rattle.circuit.specs.Curve.{waveLimit};
-ghost use Rattle.circuit.specs.declared.CurveKind.the-variants.{Single, Pair};
-ghost use Rattle.engine.specs.Curve.{across, back, columnsOf, answerOf, passed, Rises, Laid, Starts, Sloped, onSlope, Spans, onSegment};
+ghost use Rattle.whole.specs.Fraction.{whole};
+ghost use Rattle.circuit.specs.Curve.{waveLimit, passed, drawn, towardZero, reflected};
+ghost use Rattle.circuit.specs.declared.CurveKind.the-variants.{Pair};
+ghost use Rattle.circuit.specs.declared.Record.{Record};
+ghost use Rattle.engine.specs.Curve.{across, back, Across, Plotted, Sloped, onSlope, Spans, onSegment};
 use circuit::COLUMNS;
 use circuit::Column;
 use circuit::CurveKind;
@@ -37,8 +38,7 @@ pub(crate) fn lay_out(columns: [Column; COLUMNS]) -> Axes
 
 // How many columns have an x that is not above the wave, by a walk from the left.
 fn segment(xs: &[i64], wave: i64) -> usize
-    requires { ⌜ Rises (now xs) ⌝ }
-    ensures { λ r. ⌜ r ≡ passed wave (now (xs .entry)) ⌝ }
+    ensures { λ n. ⌜ ((r : Record) → Across r (now (xs .entry)) → n ≡ passed r (whole wave)) ⌝ }
 {
     let mut n = 0;
     while n < xs.len() {
@@ -48,7 +48,7 @@ fn segment(xs: &[i64], wave: i64) -> usize
         }
         n += 1;
     }
-    n
+    xs.len()
 }
 
 // The line through the column (x, y) that rises by `rise` over `run`: its whole value at a wave, rounded toward zero.
@@ -67,11 +67,10 @@ fn between(x: i64, y: i64, z: i64, v: i64, wave: i64) -> i64
     straight(x, y, v - y, z - x, wave)
 }
 
-// The answer of a single curve. Left of the first column the line goes down one for one with the wave, past the last it falls one for one.
-// The bound, far above any answer, says that it can be negated.
-fn single(xs: &[i64], ys: &[i64], wave: i64) -> i64
-    requires { ⌜ Laid (now xs) (now ys) × Abs wave waveLimit ⌝ }
-    ensures { λ r. ⌜ (r ≡ answerOf Single (columnsOf (now (xs .entry)) (now (ys .entry))) wave) × Abs r (2 ^ 55) ⌝ }
+// The drawn line at a wave. Left of the first column it goes down one for one with the wave, past the last it falls one for one.
+fn drawn_line(xs: &[i64], ys: &[i64], wave: i64) -> i64
+    requires { ⌜ ((r : Record) × Plotted r (now xs) (now ys)) × Abs wave waveLimit ⌝ }
+    ensures { λ a. ⌜ ((r : Record) → Plotted r (now (xs .entry)) (now (ys .entry)) → a ≡ towardZero (drawn r (whole wave))) ⌝ }
 {
     let n = segment(xs, wave);
     if n == 0 {
@@ -85,27 +84,27 @@ fn single(xs: &[i64], ys: &[i64], wave: i64) -> i64
     between(x, y, xs[n], ys[n], wave)
 }
 
-// The answer of a pair: a negative wave gets minus the answer for its opposite.
+// Of a pair a negative wave gets minus the answer for its opposite.
 fn paired(xs: &[i64], ys: &[i64], wave: i64) -> i64
-    requires { ⌜ Laid (now xs) (now ys) × (Abs wave waveLimit × Starts Pair (now xs)) ⌝ }
-    ensures { λ r. ⌜ r ≡ answerOf Pair (columnsOf (now (xs .entry)) (now (ys .entry))) wave ⌝ }
+    requires { ⌜ ((r : Record) × (r .kind ≡ Pair) × Plotted r (now xs) (now ys)) × Abs wave waveLimit ⌝ }
+    ensures { λ a. ⌜ ((r : Record) → r .kind ≡ Pair → Plotted r (now (xs .entry)) (now (ys .entry)) → a ≡ reflected r wave) ⌝ }
 {
     if wave < 0 {
-        -single(xs, ys, -wave)
+        -drawn_line(xs, ys, -wave)
     } else {
-        single(xs, ys, wave)
+        drawn_line(xs, ys, wave)
     }
 }
 
 // The wave that the diode sends back, with one division.
 pub(crate) fn reflect(kind: CurveKind, xs: &[i64], ys: &[i64], wave: Wave) -> Wave
-    requires { ⌜ Laid (now xs) (now ys) × (Abs (wave .0) waveLimit × Starts kind (now xs)) ⌝ }
-    ensures { λ r. ⌜ r .0 ≡ answerOf kind (columnsOf (now (xs .entry)) (now (ys .entry))) (wave .0) ⌝ }
+    requires { ⌜ ((r : Record) × (r .kind ≡ kind) × Plotted r (now xs) (now ys)) × Abs (wave .0) waveLimit ⌝ }
+    ensures { λ a. ⌜ ((r : Record) → r .kind ≡ kind → Plotted r (now (xs .entry)) (now (ys .entry)) → a .0 ≡ reflected r (wave .0)) ⌝ }
 {
     let a = wave.0;
     match kind {
         CurveKind::Unset => Wave(0),
-        CurveKind::Single => Wave(single(xs, ys, a)),
+        CurveKind::Single => Wave(drawn_line(xs, ys, a)),
         CurveKind::Pair => Wave(paired(xs, ys, a)),
     }
 }

@@ -1,5 +1,4 @@
 // What a run lays out of a record before its first sample: a word for each row, and lists of the rows that a sweep visits.
-use crate::check::is_reactive;
 use circuit::Adaptor;
 use circuit::CurveKind;
 use circuit::Element;
@@ -15,12 +14,12 @@ ghost use Prim.Native.Nat.{ℕ, _≤_, _<_};
 ghost use lib.Dec.{eqb};
 ghost use lib.ListN.{getD};
 ghost use Rattle.circuit.specs.Counting.{total, one};
-ghost use Rattle.circuit.specs.Record.{isLeaf, isInput};
+ghost use Rattle.circuit.specs.Record.{rowLimit, top, rowIn, isAdaptor, isInput};
 ghost use Rattle.circuit.specs.declared.Part.{Part};
-ghost use Rattle.engine.specs.Plan.{joinOf, codeOf, linkOf, Says, isAdaptor, isReactivePart, chosenBy, enteredIf, partIn, ratioIn, Lists};
+ghost use Rattle.engine.specs.Plan.{joinOf, codeOf, linkOf, Says, isReactivePart, chosenBy, enteredIf, ratioIn, Ranked};
 
 // An adaptor's row: its ratio in parts of 2^24, and its children's rows.
-pub struct Link {
+pub(crate) struct Link {
     pub join: Join,
     pub ratio: u32,
     pub first: usize,
@@ -28,13 +27,13 @@ pub struct Link {
 }
 
 // Rows in rising order: the first `length` of `rows`.
-pub struct Listed {
+pub(crate) struct Listed {
     pub rows: [u8; ROWS],
     pub length: usize,
 }
 
 // The numbers of a circuit that a sample asks for.
-pub struct Shape {
+pub(crate) struct Shape {
     // how many adaptors, leaves and reactive rows there are
     pub adaptors: usize,
     pub leaves: usize,
@@ -46,14 +45,14 @@ pub struct Shape {
     pub kind: CurveKind,
 }
 
-pub enum Choice {
+pub(crate) enum Choice {
     Adaptors,
     Leaves,
     Reactive,
 }
 
 // A row's number, as an index.
-pub fn wide(row: u8) -> usize
+pub(crate) fn wide(row: u8) -> usize
     ensures { λ r. ⌜ r ≡ row ⌝ }
 {
     row as usize
@@ -79,7 +78,7 @@ fn code_of(join: Join) -> u64
 }
 
 // A sweep reads an adaptor by one load: a byte for each child, a byte for its kind, and the ratio in the upper half.
-pub fn unpack(word: u64) -> Link
+pub(crate) fn unpack(word: u64) -> Link
     ensures { λ r. ⌜ r ≡ linkOf word ⌝ }
 {
     let join = join_of(word / 65536 % 256);
@@ -124,8 +123,8 @@ fn pack(part: Part, g: u32) -> u64
     }
 }
 
-pub fn words(rows: [Row; ROWS], prepared: [Prepared; ROWS]) -> [u64; ROWS]
-    ensures { λ r. ⌜ ((j : ℕ) → j < 31 → Says (partIn rows j) (ratioIn prepared j) (getD r j 0)) ⌝ }
+pub(crate) fn words(rows: [Row; ROWS], prepared: [Prepared; ROWS]) -> [u64; ROWS]
+    ensures { λ r. ⌜ ((j : ℕ) → j < rowLimit → Says (rowIn rows j .part) (ratioIn prepared j) (getD r j 0)) ⌝ }
 {
     let mut words = [0u64; ROWS];
     for i in 0..ROWS {
@@ -147,22 +146,12 @@ fn is_adaptor(part: Part) -> bool
     }
 }
 
-fn is_leaf(part: Part) -> bool
-    ensures { λ r. ⌜ r ≡ isLeaf part ⌝ }
-{
-    match part {
-        Part::Blank => false,
-        Part::Leaf(_) => true,
-        Part::Adaptor(_) => false,
-    }
-}
-
 fn keeps_wave(part: Part) -> bool
     ensures { λ r. ⌜ r ≡ isReactivePart part ⌝ }
 {
     match part {
         Part::Blank => false,
-        Part::Leaf(e) => is_reactive(e),
+        Part::Leaf(e) => e.is_reactive(),
         Part::Adaptor(_) => false,
     }
 }
@@ -172,14 +161,14 @@ fn chosen(choice: Choice, part: Part) -> bool
 {
     match choice {
         Choice::Adaptors => is_adaptor(part),
-        Choice::Leaves => is_leaf(part),
+        Choice::Leaves => part.is_leaf(),
         Choice::Reactive => keeps_wave(part),
     }
 }
 
 // The list with row i at its end, if it is wanted.
 fn entered(list: Listed, i: usize, wanted: bool) -> Listed
-    requires { ⌜ (i < 31) × (list .length ≤ i) ⌝ }
+    requires { ⌜ (i < rowLimit) × (list .length ≤ i) ⌝ }
     ensures { λ r. ⌜ r ≡ enteredIf wanted i list ⌝ }
 {
     if wanted {
@@ -193,9 +182,9 @@ fn entered(list: Listed, i: usize, wanted: bool) -> Listed
     }
 }
 
-pub fn rows_of(rows: [Row; ROWS], count: usize, choice: Choice) -> Listed
-    requires { ⌜ count ≤ 31 ⌝ }
-    ensures { λ r. ⌜ Lists (λ j. chosenBy choice (partIn rows j)) count (r .rows) (r .length) ⌝ }
+pub(crate) fn rows_of(rows: [Row; ROWS], count: usize, choice: Choice) -> Listed
+    requires { ⌜ count ≤ rowLimit ⌝ }
+    ensures { λ r. ⌜ Ranked (λ j. chosenBy choice (rowIn rows j .part)) count (r .rows) (r .length) ⌝ }
 {
     let mut list = Listed {
         rows: [0u8; ROWS],
@@ -209,38 +198,16 @@ pub fn rows_of(rows: [Row; ROWS], count: usize, choice: Choice) -> Listed
     list
 }
 
-fn is_input(part: Part) -> bool
-    ensures { λ r. ⌜ r ≡ isInput part ⌝ }
-{
-    match part {
-        Part::Blank => false,
-        Part::Leaf(e) => takes_sample(e),
-        Part::Adaptor(_) => false,
-    }
-}
-
-fn takes_sample(e: Element) -> bool
-    ensures { λ r. ⌜ r ≡ isInput (Part.Leaf e) ⌝ }
-{
-    match e {
-        Element::Resistor(_) => false,
-        Element::Capacitor(_) => false,
-        Element::Inductor(_) => false,
-        Element::Input(_) => true,
-        Element::Steady(_, _) => false,
-    }
-}
-
 // The row of the one input.
-pub fn input_row(rows: [Row; ROWS], count: usize) -> usize
-    requires { ⌜ (count ≤ 31) × (0 < total (λ j. one (isInput (partIn rows j))) count) ⌝ }
-    ensures { λ r. ⌜ (r < count) × (isInput (partIn rows r) ≡ true) ⌝ }
+pub(crate) fn input_row(rows: [Row; ROWS], count: usize) -> usize
+    requires { ⌜ (count ≤ rowLimit) × (0 < total (λ j. one (isInput (rowIn rows j .part))) count) ⌝ }
+    ensures { λ r. ⌜ (r < count) × (isInput (rowIn rows r .part) ≡ true) ⌝ }
 {
     let mut i: usize = 0;
     while i < count {
         let row = rows[i];
         let part = row.part;
-        if is_input(part) {
+        if part.is_input() {
             return i;
         }
         i += 1;
@@ -249,8 +216,8 @@ pub fn input_row(rows: [Row; ROWS], count: usize) -> usize
 }
 
 // The row that a tap reads: at the top the two waves are the top's and the diode's.
-pub fn tap_row(tap: u8, last: usize) -> usize
-    ensures { λ r. ⌜ r ≡ cond (eqb tap 255) last tap ⌝ }
+pub(crate) fn tap_row(tap: u8, last: usize) -> usize
+    ensures { λ r. ⌜ r ≡ cond (eqb tap top) last tap ⌝ }
 {
     if tap == TOP { last } else { wide(tap) }
 }

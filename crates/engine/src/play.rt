@@ -12,6 +12,7 @@ use crate::plan::words;
 use crate::sample::Outcome;
 use crate::sample::sample;
 use circuit::Answer;
+use circuit::Doubled;
 use circuit::Prepared;
 use circuit::Progress;
 use circuit::ROWS;
@@ -22,20 +23,20 @@ use circuit::Wave;
 ghost use mathlib.Core.Path.{_≡_};
 ghost use Prim.Native.Nat.{ℕ, _<_};
 ghost use lib.IntN.{pos};
-ghost use lib.ListN.{length};
+ghost use lib.ListN.{length, set};
 ghost use Rattle.whole.specs.Order.{Abs};
 ghost use Rattle.circuit.specs.Curve.{waveLimit};
-ghost use Rattle.circuit.specs.Sample.{partSends};
-ghost use Rattle.engine.specs.Wave.{counting};
-ghost use Rattle.engine.specs.Plan.{partIn, partTaken};
-ghost use Rattle.engine.specs.Sweep.{waveAt};
-ghost use Rattle.engine.specs.Sample.{Ready};
-ghost use Rattle.engine.specs.Play.{silence, Plays, Playable, progress};
-ghost use Rattle.circuit.specs.Run.{ran, call};
+ghost use Rattle.circuit.specs.Sample.{rounded, partSends, storedAt};
+ghost use Rattle.circuit.specs.Record.{rowLimit, rowIn};
+ghost use Rattle.circuit.specs.Run.{freshWaves, call};
+ghost use Rattle.circuit.specs.Promises.{Runs};
+ghost use Rattle.engine.specs.Plan.{partTaken};
+ghost use Rattle.engine.specs.Sample.{LaidOut};
+ghost use Rattle.engine.specs.Play.{Plays, Playable};
 
 // What each row sends from its stored wave; the input's row waits for a sample.
 fn load(rows: [Row; ROWS], state: State) -> [i64; ROWS]
-    ensures { λ r. ⌜ (length r ≡ 31) × ((j : ℕ) → j < 31 → waveAt r j ≡ partSends counting (pos 0) (waveAt (state .waves) j) (partIn rows j)) ⌝ }
+    ensures { λ r. ⌜ (length r ≡ rowLimit) × ((j : ℕ) → j < rowLimit → storedAt r j ≡ partSends rounded (pos 0) (storedAt (state .waves) j) (rowIn rows j .part)) ⌝ }
 {
     let mut up = [0i64; ROWS];
     for i in 0..ROWS {
@@ -50,8 +51,8 @@ fn load(rows: [Row; ROWS], state: State) -> [i64; ROWS]
 
 // The stored waves, out of what the rows send next.
 fn unload(rows: [Row; ROWS], up: [i64; ROWS]) -> State
-    requires { ⌜ ((j : ℕ) → j < 31 → Abs (partTaken (partIn rows j) (waveAt up j)) waveLimit) ⌝ }
-    ensures { λ r. ⌜ (length (r .waves) ≡ 31) × ((j : ℕ) → j < 31 → waveAt (r .waves) j ≡ partTaken (partIn rows j) (waveAt up j)) ⌝ }
+    requires { ⌜ ((j : ℕ) → j < rowLimit → Abs (partTaken (rowIn rows j .part) (storedAt up j)) waveLimit) ⌝ }
+    ensures { λ r. ⌜ (length (r .waves) ≡ rowLimit) × ((j : ℕ) → j < rowLimit → storedAt (r .waves) j ≡ partTaken (rowIn rows j .part) (storedAt up j)) ⌝ }
 {
     let mut state = State {
         waves: [0i32; ROWS],
@@ -66,8 +67,17 @@ fn unload(rows: [Row; ROWS], up: [i64; ROWS]) -> State
     state
 }
 
+// The output of sample i.
+fn put(output: &mut [i32], i: usize, v: Doubled)
+    requires { ⌜ i < length (now output) ⌝ }
+    ensures { λ r. ⌜ now (output .exit) ≡ set (now (output .entry)) i (v .0) ⌝ }
+{
+    let doubled = v.0;
+    output[i] = doubled;
+}
+
 // How many samples are done, and why no more are.
-pub struct Stop {
+pub(crate) struct Stop {
     pub answer: Answer,
     pub done: usize,
 }
@@ -84,7 +94,7 @@ fn samples(
     input: &[i32],
     output: &mut [i32],
 ) -> Stop
-    requires { ⌜ Ready shape (now words) (now adaptors) (now leaves) (now reactive) (now xs) (now ys) (now up) silence × (length (now input) ≡ length (now output)) ⌝ }
+    requires { ⌜ LaidOut shape (now words) (now adaptors) (now leaves) (now reactive) (now xs) (now ys) (now up) freshWaves × (length (now input) ≡ length (now output)) ⌝ }
     ensures { λ s. ⌜ Plays shape (now (words .entry)) (now (adaptors .entry)) (now (leaves .entry)) (now (reactive .entry)) (now (xs .entry)) (now (ys .entry)) (now (up .entry)) (now (input .entry)) (now (output .entry)) s (now (up .exit)) (now (output .exit)) ⌝ }
 {
     let mut down = [0i64; ROWS];
@@ -116,10 +126,7 @@ fn samples(
                     done: i,
                 };
             }
-            Outcome::Finished(v) => {
-                let doubled = v.0;
-                output[i] = doubled;
-            }
+            Outcome::Finished(v) => put(output, i, v),
         }
         i += 1;
     }
@@ -130,7 +137,7 @@ fn samples(
 }
 
 // A call that 4 to 13 do not refuse; `prepared` are the record's rows after set-up.
-pub fn play(
+pub(crate) fn play(
     r: Record,
     prepared: [Prepared; ROWS],
     state: State,
@@ -138,7 +145,7 @@ pub fn play(
     output: &mut [i32],
 ) -> Progress
     requires { ⌜ Playable r prepared (state .waves) (now input) (now output) ⌝ }
-    ensures { λ p. ⌜ ran (call r (state .waves) (now (input .entry)) (now (output .entry))) ≡ progress p (now (output .exit)) ⌝ }
+    ensures { λ p. ⌜ Runs (call r (state .waves) (now (input .entry)) (now (output .entry))) p (now (output .exit)) ⌝ }
 {
     let rows = r.rows;
     let count = wide(r.count);

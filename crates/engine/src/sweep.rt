@@ -6,10 +6,11 @@ use crate::wave::sends_up;
 use circuit::ROWS;
 use circuit::Wave;
 ghost use mathlib.Core.Path.{_≡_};
-ghost use Prim.Native.Nat.{_<_};
+ghost use Prim.Native.Nat.{_≤_};
+ghost use Rattle.circuit.specs.Record.{rowLimit};
 ghost use Rattle.engine.specs.Sweep.{climbed, Climbs, dropped, Drops};
 
-pub fn sweep_up(words: &[u64; ROWS], adaptors: &[u8; ROWS], n: usize, up: &mut [i64; ROWS])
+pub(crate) fn sweep_up(words: &[u64; ROWS], adaptors: &[u8; ROWS], n: usize, up: &mut [i64; ROWS])
     requires { ⌜ Climbs (now words) (now adaptors) n (now up) ⌝ }
     ensures { λ r. ⌜ now (up .exit) ≡ climbed (now (words .entry)) (now (adaptors .entry)) n (now (up .entry)) ⌝ }
 {
@@ -26,14 +27,14 @@ pub fn sweep_up(words: &[u64; ROWS], adaptors: &[u8; ROWS], n: usize, up: &mut [
 }
 
 // `down` holds the wave that reaches the top, at the top's row.
-pub fn sweep_down(
+pub(crate) fn sweep_down(
     words: &[u64; ROWS],
     adaptors: &[u8; ROWS],
     n: usize,
     up: &[i64; ROWS],
     down: &mut [i64; ROWS],
 )
-    requires { ⌜ (n < 32) × Drops (now words) (now adaptors) (now up) n (now down) ⌝ }
+    requires { ⌜ (n ≤ rowLimit) × Drops (now words) (now adaptors) (now up) n (now down) ⌝ }
     ensures { λ r. ⌜ now (down .exit) ≡ dropped (now (words .entry)) (now (adaptors .entry)) (now (up .entry)) n (now (down .entry)) ⌝ }
 {
     let mut k = n;

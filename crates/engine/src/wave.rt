@@ -3,28 +3,29 @@ use circuit::Join;
 use circuit::Wave;
 ghost use mathlib.Core.Path.{_≡_};
 ghost use Prim.Native.Nat.{_<_};
-ghost use lib.IntN.{natAbs};
-ghost use Rattle.circuit.specs.Sample.{h, sendsUp, sendsFirst, sendsSecond};
-ghost use Rattle.engine.specs.Wave.{counting, Below, Beneath};
+ghost use Rattle.whole.specs.Order.{Abs};
+ghost use Rattle.circuit.specs.SetUp.{parts};
+ghost use Rattle.circuit.specs.Sample.{h, rounded, sendsUp, sendsFirst, sendsSecond};
+ghost use Rattle.engine.specs.Wave.{sumLimit, Below, Beneath};
 
 // The waves that an adaptor sends its two children.
-pub struct Pair {
+pub(crate) struct SentDown {
     pub first: Wave,
     pub second: Wave,
 }
 
 // g·t / 2^24, rounded down.
 fn part(g: u32, t: i64) -> i64
-    requires { ⌜ (g < 16777216) × (natAbs t < 274877906944) ⌝ }
+    requires { ⌜ (g < parts) × Abs t sumLimit ⌝ }
     ensures { λ r. ⌜ r ≡ h g t ⌝ }
 {
     let wide = g as i64;
     (wide * t) >> 24
 }
 
-pub fn sends_up(join: Join, g: u32, a1: Wave, a2: Wave) -> Wave
+pub(crate) fn sends_up(join: Join, g: u32, a1: Wave, a2: Wave) -> Wave
     requires { ⌜ Below g (a1 .0) (a2 .0) ⌝ }
-    ensures { λ r. ⌜ r .0 ≡ sendsUp counting join g (a1 .0) (a2 .0) ⌝ }
+    ensures { λ r. ⌜ r .0 ≡ sendsUp rounded join g (a1 .0) (a2 .0) ⌝ }
 {
     match join {
         Join::Series => Wave(-(a1.0 + a2.0)),
@@ -33,23 +34,23 @@ pub fn sends_up(join: Join, g: u32, a1: Wave, a2: Wave) -> Wave
 }
 
 // With a3 from above; u is what the adaptor has sent up.
-pub fn sends_down(join: Join, g: u32, a1: Wave, a2: Wave, u: Wave, a3: Wave) -> Pair
+pub(crate) fn sends_down(join: Join, g: u32, a1: Wave, a2: Wave, u: Wave, a3: Wave) -> SentDown
     requires { ⌜ Beneath join g (a1 .0) (a2 .0) (u .0) (a3 .0) ⌝ }
-    ensures first { λ r. ⌜ r .first .0 ≡ sendsFirst counting join g (a1 .0) (a2 .0) (a3 .0) ⌝ }
-    ensures second { λ r. ⌜ r .second .0 ≡ sendsSecond counting join g (a1 .0) (a2 .0) (a3 .0) ⌝ }
+    ensures first { λ r. ⌜ r .first .0 ≡ sendsFirst rounded join g (a1 .0) (a2 .0) (a3 .0) ⌝ }
+    ensures second { λ r. ⌜ r .second .0 ≡ sendsSecond rounded join g (a1 .0) (a2 .0) (a3 .0) ⌝ }
 {
     match join {
         Join::Series => {
             let b1 = a1.0 - part(g, a1.0 + a2.0 + a3.0);
             let first = Wave(b1);
             let second = Wave(-(a3.0 + b1));
-            Pair { first, second }
+            SentDown { first, second }
         }
         Join::Parallel => {
             let all = u.0 + a3.0;
             let first = Wave(all - a1.0);
             let second = Wave(all - a2.0);
-            Pair { first, second }
+            SentDown { first, second }
         }
     }
 }

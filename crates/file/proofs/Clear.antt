@@ -10,7 +10,7 @@ use lib.ListN.{length, getD, take, drop, length-replicate, getD-replicate}
 use lib.Seq.{getD-take, getD-drop, length-take-le, ext-getD}
 use Rattle.circuit.specs.File.{numberOf, numberAt, zeros, clear}
 use Rattle.laws.proofs.Counting.{every-true, true-every}
-use Rattle.file.proofs.Digits.{room}
+use Rattle.file.proofs.Digits.{part-room}
 
 module _ (n at : ℕ) (s : List ℕ) where
   byte-at : (j : ℕ) → j < n → getD (take n (drop at s)) j 0 ≡ getD s (at + j) 0
@@ -19,7 +19,7 @@ module _ (n at : ℕ) (s : List ℕ) where
   pub clear-zeros : at + n ≤ length s → clear n at s ≡ true → take n (drop at s) ≡ zeros n
   unfolding clear
   clear-zeros h e =
-      let l : length (take n (drop at s)) ≡ n = length-take-le n (drop at s) (room at n s h) in
+      let l : length (take n (drop at s)) ≡ n = length-take-le n (drop at s) (part-room at n s h) in
       ext-getD 0 (take n (drop at s)) (zeros n) (l ∙ sym (length-replicate {A = ℕ} n 0))
       (λ j g. let k : j < n = omega arith in
       byte-at j k ∙ eqb-true _ 0 (every-true (λ i. eqb (getD s (at + i) 0) 0) n e j k) ∙ sym (getD-replicate n j 0 0 k))

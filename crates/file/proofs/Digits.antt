@@ -24,12 +24,12 @@ bytes-take (suc n) (x ∷ l) b (suc i) = bytes-take n l (λ j. b (suc j)) i
 
 -- ---- the range of a number
 
-pub number-lt : (l : List ℕ) → Bytes l → numberOf l < 256 ^ length l
+number-lt : (l : List ℕ) → Bytes l → numberOf l < 256 ^ length l
 unfolding numberOf
 number-lt [] b = lit< tt
 number-lt (x ∷ l) b = omega (arith, pow-suc 256 (length l), number-lt l (λ i. b (suc i)), b 0)
 
-pub number-below : (m : ℕ) (l : List ℕ) → Bytes l → length l ≤ m → numberOf l < 256 ^ m
+number-below : (m : ℕ) (l : List ℕ) → Bytes l → length l ≤ m → numberOf l < 256 ^ m
 number-below m l b h = lt-of-lt-of-le (number-lt l b) (pow-le-pow-right (lit< tt) h)
 
 -- ---- there and back
@@ -42,13 +42,13 @@ number-bytes (suc k) n h =
     omega (arith, div-add-mod' n 256)
 
 -- a byte in front of a number is its remainder, and the number its quotient
-front : (x n : ℕ) → x < 256 → ((x + 256 * n) % 256 ≡ x) × ((x + 256 * n) / 256 ≡ n)
-front x n h = omega arith
+byte-front : (x n : ℕ) → x < 256 → ((x + 256 * n) % 256 ≡ x) × ((x + 256 * n) / 256 ≡ n)
+byte-front x n h = omega arith
 
-pub bytes-number : (l : List ℕ) → Bytes l → bytes (length l) (numberOf l) ≡ l
+bytes-number : (l : List ℕ) → Bytes l → bytes (length l) (numberOf l) ≡ l
 unfolding numberOf bytes
 bytes-number [] b = refl
-bytes-number (x ∷ l) b = rw (front x (numberOf l) (b 0) .0, front x (numberOf l) (b 0) .1, bytes-number l (λ i. b (suc i)))
+bytes-number (x ∷ l) b = rw (byte-front x (numberOf l) (b 0) .0, byte-front x (numberOf l) (b 0) .1, bytes-number l (λ i. b (suc i)))
 
 pub length-bytes : (k n : ℕ) → length (bytes k n) ≡ k
 unfolding bytes
@@ -70,12 +70,12 @@ digit (suc k) n (suc i) h =
 
 -- ---- k bytes in their place, from `at` on
 
-pub room : (at k : ℕ) (l : List ℕ) → at + k ≤ length l → k ≤ length (drop at l)
-room at k l h = rw length-drop (omega arith)
+pub part-room : (at k : ℕ) (l : List ℕ) → at + k ≤ length l → k ≤ length (drop at l)
+part-room at k l h = rw length-drop (omega arith)
 
 module _ (s : List ℕ) (b : Bytes s) (at k : ℕ) (h : at + k ≤ length s) where
-  pub part-length : length (take k (drop at s)) ≡ k
-  part-length = length-take-le k (drop at s) (room at k s h)
+  part-length : length (take k (drop at s)) ≡ k
+  part-length = length-take-le k (drop at s) (part-room at k s h)
 
   pub part-below : numberAt k at s < 256 ^ k
   part-below = rw part-length at (number-lt (take k (drop at s)) (bytes-take k (drop at s) (bytes-drop at s b)))
@@ -89,12 +89,12 @@ module _ (s : List ℕ) (b : Bytes s) (at k : ℕ) (h : at + k ≤ length s) whe
   pub slice-below : (i m : ℕ) → k - i ≤ m → numberOf (slice i k (drop at s)) < 256 ^ m
   slice-below i m d =
       number-below m (slice i k (drop at s)) (bytes-drop i (take k (drop at s)) (bytes-take k (drop at s) (bytes-drop at s b)))
-      (rw (length-slice i k (drop at s) (room at k s h)) d)
+      (rw (length-slice i k (drop at s) (part-room at k s h)) d)
 
   pub slice-step : (j i : ℕ) → suc j ≡ i → i ≤ k → numberOf (slice j k (drop at s)) ≡ getD s (at + j) 0 + 256 * numberOf (slice i k (drop at s))
   unfolding numberOf
   slice-step j i e g =
-      ap numberOf (slice-cons j k (drop at s) 0 (omega arith) (room at k s h))
+      ap numberOf (slice-cons j k (drop at s) 0 (omega arith) (part-room at k s h))
       ∙ rw (getD-drop at s j 0, ← e)
 
 pub slice-none : (k : ℕ) (l : List ℕ) → 0 ≡ numberOf (slice k k l)

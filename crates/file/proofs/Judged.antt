@@ -1,6 +1,6 @@
 -- What reading and writing hand back, step by step: the rules of the bytes first, then set-up's.
 use mathlib.Core.Path.{_≡_, refl, sym, ap, _∙_}
-use Prim.Native.Nat.{ℕ, zero, suc, _<_}
+use Prim.Native.Nat.{ℕ, zero, suc, _/_, _<_}
 use native.Mathlib.Decide.{ℕ-discrete}
 use native.Mathlib.Omega.{arith}
 use borrow.Author.Tests.{eqb-true, eq-eqb, ne-eqb, not-false}
@@ -8,12 +8,21 @@ use mathlib.Core.Bool.{true, false, not}
 use mathlib.Core.List.{List, [], _∷_}
 use lib.Dec.{lit<}
 use lib.ListN.{length}
-use Rattle.circuit.specs.Numbers.{report, done, rule, judge, unless, passes}
+use Rattle.circuit.specs.Numbers.{handed, report, done, Rule, rule, judge, unless, passes}
 use Rattle.circuit.specs.SetUp.{setUpRules, setUpReport}
-use Rattle.circuit.specs.File.{numberAt, checkOf, blockAt, fileLengthRule, checks, versionRule, unused, recordOf, noRecord, readRules, readReport, readRecord, Written, writeRules, writeReport, bufferAfter, fileOf}
+use Rattle.circuit.specs.File.{fileLength, blockLength, checkPlace, numberAt, checkOf, fileOf, recordOf, noRecord, fileLengthRule, blockAt, wrongCheck, checkRule, versionRule, clearFile, unusedBytesRule, fileRules, readRules, readReport, readRecord, WriteCall, writeRules, writeReport, bufferAfter}
+use Rattle.circuit.specs.Promises.{Reads, Writes}
+use Rattle.circuit.specs.declared.Answer.{Answer}
+use Rattle.circuit.specs.declared.Reading.{Reading}
 use Rattle.laws.proofs.Counting.{unless-passes, lowest-passes, passes-lowest}
 use Rattle.laws.proofs.Judging.{Pass, Numbered, judge-pass, judge-fail, judge-at, judge-rest, judge-stop, judge-of, pass-done, zero-pass}
-use Rattle.file.specs.Placing.{wrongBlock, clearFile, fileRules}
+
+-- the first two rules, and the first three
+abbrev checkedRules : List (Rule (List ℕ))
+checkedRules = rule 1 fileLengthRule ∷ rule 2 checkRule ∷ []
+
+abbrev versionedRules : List (Rule (List ℕ))
+versionedRules = rule 1 fileLengthRule ∷ rule 2 checkRule ∷ rule 3 versionRule ∷ []
 
 file-numbered : Numbered fileRules
 unfolding fileRules
@@ -22,47 +31,47 @@ file-numbered = (lit< tt, (lit< tt, (lit< tt, (lit< tt, tt))))
 -- ---- the rules of the bytes
 
 module _ (s : List ℕ) where
-  pub length-stop : (length s ≡ 1536 → ⊥) → judge fileRules s ≡ report 1 0
+  pub length-stop : (length s ≡ fileLength → ⊥) → judge fileRules s ≡ report 1 0
   unfolding fileRules fileLengthRule
   length-stop e = judge-fail _ _ s 0 (ap (λ b. unless b 0) (ne-eqb _ _ e))
 
-  module _ (long : length s ≡ 1536) where
+  module _ (long : length s ≡ fileLength) where
     long-passes : fileLengthRule s ≡ passes
     unfolding fileLengthRule
     long-passes = ap (λ b. unless b 0) (eq-eqb _ _ long)
 
-    pub checks-stop : (judge (rule 2 checks ∷ []) s .number ≡ 0 → ⊥) → judge fileRules s ≡ judge (rule 2 checks ∷ []) s
+    pub checks-stop : (judge (rule 2 checkRule ∷ []) s .number ≡ 0 → ⊥) → judge fileRules s ≡ judge (rule 2 checkRule ∷ []) s
     unfolding fileRules
-    checks-stop e = judge-pass _ _ s long-passes ∙ judge-stop (rule 2 checks ∷ []) (rule 3 versionRule ∷ rule 4 unused ∷ []) s (omega arith)
+    checks-stop e = judge-pass _ _ s long-passes ∙ judge-stop (rule 2 checkRule ∷ []) (rule 3 versionRule ∷ rule 4 unusedBytesRule ∷ []) s (omega arith)
 
-    module _ (right : judge (rule 2 checks ∷ []) s .number ≡ 0) where
-      checks-pass : Pass (rule 1 fileLengthRule ∷ rule 2 checks ∷ []) s
-      checks-pass = (long-passes, zero-pass (rule 2 checks ∷ []) s (lit< tt, tt) right)
+    module _ (right : judge (rule 2 checkRule ∷ []) s .number ≡ 0) where
+      checks-pass : Pass checkedRules s
+      checks-pass = (long-passes, zero-pass (rule 2 checkRule ∷ []) s (lit< tt, tt) right)
 
       pub version-stop : (numberAt 2 0 s ≡ 1 → ⊥) → judge fileRules s ≡ report 3 0
       unfolding fileRules versionRule
       version-stop e =
-          judge-at (rule 1 fileLengthRule ∷ rule 2 checks ∷ []) (rule 3 versionRule) (rule 4 unused ∷ []) s 0 checks-pass (ap (λ b. unless b 0) (ne-eqb _ _ e))
+          judge-at checkedRules (rule 3 versionRule) (rule 4 unusedBytesRule ∷ []) s 0 checks-pass (ap (λ b. unless b 0) (ne-eqb _ _ e))
 
       module _ (first : numberAt 2 0 s ≡ 1) where
-        version-pass : Pass (rule 1 fileLengthRule ∷ rule 2 checks ∷ rule 3 versionRule ∷ []) s
+        version-pass : Pass versionedRules s
         unfolding versionRule
         version-pass = (checks-pass .0, (checks-pass .1 .0, (ap (λ b. unless b 0) (eq-eqb _ _ first), tt)))
 
         pub unused-stop : clearFile s ≡ false → judge fileRules s ≡ report 4 0
-        unfolding fileRules unused
-        unused-stop e = judge-at (rule 1 fileLengthRule ∷ rule 2 checks ∷ rule 3 versionRule ∷ []) (rule 4 unused) [] s 0 version-pass (ap (λ b. unless b 0) e)
+        unfolding fileRules unusedBytesRule
+        unused-stop e = judge-at versionedRules (rule 4 unusedBytesRule) [] s 0 version-pass (ap (λ b. unless b 0) e)
 
         pub file-done : clearFile s ≡ true → judge fileRules s ≡ done
-        unfolding fileRules unused
+        unfolding fileRules unusedBytesRule
         file-done e = pass-done fileRules s (version-pass .0, (version-pass .1 .0, (version-pass .1 .1 .0, (ap (λ b. unless b 0) e, tt))))
 
 -- ---- reading
 
 module _ (s : List ℕ) where
-  pub judged-length : judge fileRules s .number ≡ 0 → length s ≡ 1536
+  pub judged-length : judge fileRules s .number ≡ 0 → length s ≡ fileLength
   unfolding fileRules fileLengthRule
-  judged-length e = eqb-true (length s) 1536 (unless-passes _ 0 (zero-pass fileRules s file-numbered e .0))
+  judged-length e = eqb-true (length s) fileLength (unless-passes _ 0 (zero-pass fileRules s file-numbered e .0))
 
   -- the bytes are refused
   pub read-stop : (judge fileRules s .number ≡ 0 → ⊥) → readReport s ≡ judge fileRules s
@@ -78,9 +87,13 @@ module _ (s : List ℕ) where
   unfolding readRecord
   record-read e = rw (eq-eqb _ _ e)
 
-  pub record-refused : (readReport s .number ≡ 0 → ⊥) → readRecord s ≡ noRecord
+  -- what a reading is, by its number
+  pub reads-record : (got : Reading) → handed (got .answer) ≡ readReport s → handed (got .answer) .number ≡ 0 → got .«record» ≡ recordOf s → Reads s got
+  reads-record got e z f = record { number = e; circuit = f ∙ sym (record-read (ap (λ m. m .number) (sym e) ∙ z)) }
+
+  pub reads-nothing : (got : Reading) (a : Answer) → (got .answer ≡ a) × (got .«record» ≡ noRecord) → handed a ≡ readReport s → (handed a .number ≡ 0 → ⊥) → Reads s got
   unfolding readRecord
-  record-refused e = rw (ne-eqb _ _ e)
+  reads-nothing got a f e h = record { number = ap handed (f .0) ∙ e; circuit = f .1 ∙ rw (ne-eqb _ _ (λ z. h (ap (λ m. m .number) e ∙ z))) }
 
   -- where reading hands back 0, the bytes are accepted
   pub read-judged : readReport s .number ≡ 0 → judge fileRules s .number ≡ 0
@@ -92,50 +105,50 @@ module _ (s : List ℕ) where
 
 -- what accepted bytes are
 pub record Sound (s : List ℕ) : Type 0 where
-  pub long : length s ≡ 1536
-  pub right : (k : ℕ) → k < 3 → numberAt 4 508 (blockAt k s) ≡ checkOf k (blockAt k s)
+  pub long : length s ≡ fileLength
+  pub right : (k : ℕ) → k < length s / blockLength → numberAt 4 checkPlace (blockAt k s) ≡ checkOf k (blockAt k s)
   pub version : numberAt 2 0 s ≡ 1
   pub clear : clearFile s ≡ true
 
 pub judged-sound : (s : List ℕ) → judge fileRules s .number ≡ 0 → Sound s
-unfolding fileRules fileLengthRule checks versionRule unused
+unfolding fileRules fileLengthRule checkRule versionRule unusedBytesRule
 judged-sound s e =
     let p = zero-pass fileRules s file-numbered e in
     record {
       long = judged-length s e;
-      right = λ k h. eqb-true _ _ (not-false _ (lowest-passes (wrongBlock s) 3 (p .1 .0) k h));
+      right = λ k h. eqb-true _ _ (not-false _ (lowest-passes (wrongCheck s) _ (p .1 .0) k h));
       version = eqb-true _ _ (unless-passes _ 0 (p .1 .1 .0));
       clear = unless-passes _ 0 (p .1 .1 .1 .0);
     }
 
 pub sound-judged : (s : List ℕ) → Sound s → judge fileRules s .number ≡ 0
-unfolding fileRules fileLengthRule checks versionRule unused
+unfolding fileRules fileLengthRule checkRule versionRule unusedBytesRule
 sound-judged s h =
     ap (λ n. n .number)
     (pass-done fileRules s (
       ap (λ b. unless b 0) (eq-eqb _ _ (h .long)),
       (
-        passes-lowest (wrongBlock s) 3 (λ k l. ap not (eq-eqb _ _ (h .right k l))),
+        passes-lowest (wrongCheck s) _ (λ k l. ap not (eq-eqb _ _ (h .right k l))),
         (ap (λ b. unless b 0) (eq-eqb _ _ (h .version)), (ap (λ b. unless b 0) (h .clear), tt)),
       ),
     ))
 
 -- ---- writing
 
-module _ (w : Written) where
-  pub write-stop : (length (w .buffer) ≡ 1536 → ⊥) → writeReport w ≡ report 1 0
+module _ (w : WriteCall) where
+  pub write-stop : (length (w .buffer) ≡ fileLength → ⊥) → writeReport w ≡ report 1 0
   unfolding writeReport writeRules fileLengthRule
   write-stop e = judge-fail _ _ w 0 (ap (λ b. unless b 0) (ne-eqb _ _ e))
 
-  pub write-on : length (w .buffer) ≡ 1536 → writeReport w ≡ setUpReport (w .circuit)
+  pub write-on : length (w .buffer) ≡ fileLength → writeReport w ≡ setUpReport (w .circuit)
   unfolding writeReport writeRules fileLengthRule setUpReport
   write-on e = judge-pass _ _ w (ap (λ b. unless b 0) (eq-eqb _ _ e)) ∙ judge-of (λ v. v .circuit) setUpRules w
 
   -- where writing hands back 0, the buffer has a file's length
-  pub written-length : writeReport w ≡ done → length (w .buffer) ≡ 1536
-  written-length e = by (ℕ-discrete (length (w .buffer)) 1536)
+  pub written-length : writeReport w ≡ done → length (w .buffer) ≡ fileLength
+  written-length e = by (ℕ-discrete (length (w .buffer)) fileLength)
     where
-      by : Dec (length (w .buffer) ≡ 1536) → length (w .buffer) ≡ 1536
+      by : Dec (length (w .buffer) ≡ fileLength) → length (w .buffer) ≡ fileLength
       by (yes q) = q
       by (no q) = absurd (let z : _≡_ {A = ℕ} 1 0 = ap (λ m. m .number) (sym (write-stop q) ∙ e) in omega arith)
 
@@ -143,6 +156,10 @@ module _ (w : Written) where
   unfolding bufferAfter
   buffer-written e = rw (eq-eqb _ _ e)
 
-  pub buffer-left : (writeReport w .number ≡ 0 → ⊥) → bufferAfter w ≡ w .buffer
+  -- what a writing is, by its number
+  pub writes-file : (a : Answer) (after : List ℕ) → handed a ≡ writeReport w → handed a .number ≡ 0 → after ≡ fileOf (w .circuit) → Writes w a after
+  writes-file a after e z f = record { number = e; buffer = f ∙ sym (buffer-written (ap (λ m. m .number) (sym e) ∙ z)) }
+
+  pub writes-nothing : (a : Answer) → handed a ≡ writeReport w → (handed a .number ≡ 0 → ⊥) → Writes w a (w .buffer)
   unfolding bufferAfter
-  buffer-left e = rw (ne-eqb _ _ e)
+  writes-nothing a e h = record { number = e; buffer = rw (ne-eqb _ _ (λ z. h (ap (λ m. m .number) e ∙ z))) }

@@ -2,6 +2,7 @@ pub mod Digits
 pub mod Patterns
 pub mod Placed
 pub mod Blocks
+pub mod Sealed
 pub mod Tables
 pub mod Sizes
 pub mod Fields
@@ -11,3 +12,4 @@ pub mod RowTrips
 pub mod ColumnTrips
 pub mod HeadingTrips
 pub mod RoundTrips
+pub mod Owned

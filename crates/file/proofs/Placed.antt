@@ -3,11 +3,11 @@ use mathlib.Core.Path.{_≡_, refl, sym, ap, _∙_}
 use Prim.Native.Nat.{ℕ, zero, suc, _+_, _-_, _≤_}
 use native.Mathlib.Nat.{sub-zero, zero-sub, suc-sub-suc}
 use native.Mathlib.Omega.{arith}
-use mathlib.Core.List.{List, [], _∷_, _++_, append-assoc}
-use lib.ListN.{length, take, drop, length-append, length-replicate, replicate-append-replicate}
+use mathlib.Core.List.{List, [], _∷_, _++_, append-assoc, append-nil}
+use lib.ListN.{length, take, drop, length-append, length-replicate, replicate-append-replicate, drop-of-length-le}
 use lib.Seq.{take-take, drop-drop, take-at, drop-at, length-take-le, take-length, paste}
-use Rattle.circuit.specs.File.{zeros}
-use Rattle.file.specs.Placing.{placed}
+use Rattle.circuit.specs.File.{blockLength, zeros}
+use Rattle.file.specs.Placing.{placed, begun}
 
 -- a part of a front is a part of the whole
 pub inner : {A : Type 0} (i w k : ℕ) (l : List A) → i + k ≤ w → take k (drop i (take w l)) ≡ take k (drop i l)
@@ -16,7 +16,7 @@ inner (suc i) zero k l h = absurd (omega arith)
 inner (suc i) (suc w) k [] h = refl
 inner (suc i) (suc w) k (x ∷ l) h = inner i w k l (omega arith)
 
-pub drop-zeros : (k n : ℕ) → drop k (zeros n) ≡ zeros (n - k)
+drop-zeros : (k n : ℕ) → drop k (zeros n) ≡ zeros (n - k)
 drop-zeros zero n = ap zeros (sym (sub-zero n))
 drop-zeros (suc k) zero = ap zeros (sym (zero-sub (suc k)))
 drop-zeros (suc k) (suc n) = drop-zeros k n ∙ ap zeros (sym (suc-sub-suc n k))
@@ -30,13 +30,13 @@ pub paste-whole : (d v : List ℕ) (at k : ℕ) → length v ≡ k → paste d a
 paste-whole d v at k e = rw (← e, take-length)
 
 -- after a front
-pub placed-after : (a r v : List ℕ) (at : ℕ) → length a ≡ at → placed (a ++ r) at v ≡ a ++ v ++ drop (length v) r
+placed-after : (a r v : List ℕ) (at : ℕ) → length a ≡ at → placed (a ++ r) at v ≡ a ++ v ++ drop (length v) r
 placed-after a r v at e =
     ap (λ (x : List ℕ). x ++ v ++ drop (at + length v) (a ++ r)) (take-at a r at e)
     ∙ ap (λ (x : List ℕ). a ++ v ++ x) (sym (drop-drop (length v) at (a ++ r)) ∙ ap (λ (x : List ℕ). drop (length v) x) (drop-at a r at e))
 
 -- where what was placed before ends
-pub placed-more : (d a b : List ℕ) (at m : ℕ) → at + length a ≡ m → at ≤ length d → placed (placed d at a) m b ≡ placed d at (a ++ b)
+placed-more : (d a b : List ℕ) (at m : ℕ) → at + length a ≡ m → at ≤ length d → placed (placed d at a) m b ≡ placed d at (a ++ b)
 placed-more d a b at m e h =
     placed-after (take at d ++ a) (drop (at + length a) d) b m (length-append (take at d) a ∙ ap (λ (x : ℕ). x + length a) (length-take-le at d h) ∙ e)
     ∙ ap (λ (x : List ℕ). take at d ++ a ++ b ++ x) (drop-drop (length b) (at + length a) d ∙ ap (λ (x : ℕ). drop x d) same)
@@ -45,45 +45,48 @@ placed-more d a b at m e h =
     same : at + length a + length b ≡ at + length (a ++ b)
     same = rw length-append (omega arith)
 
--- ---- fields of n bytes in all, placed one after another in d from `at` on
+-- ---- fields of n bytes in all, entered one after another in d from `at` on
 
-pub record Laid (d : List ℕ) (at n : ℕ) (m fields : List ℕ) : Type 0 where
+pub record Entered (d : List ℕ) (at n : ℕ) (m fields : List ℕ) : Type 0 where
   pub bytes : m ≡ placed d at fields
   pub long : length fields ≡ n
 
 -- one field more
-pub laid-more : {d : List ℕ} {at n : ℕ} {m fields : List ℕ} → Laid d at n m fields → at ≤ length d
-    → (v next : List ℕ) (p k : ℕ) → p ≡ at + n → length v ≡ k → next ≡ placed m p v → Laid d at (n + k) next (fields ++ v)
-laid-more {d} {at} {n} {m} {fields} g h v next p k e l q = record {
+pub entered-more : {d : List ℕ} {at n : ℕ} {m fields : List ℕ} → Entered d at n m fields → at ≤ length d
+    → (v next : List ℕ) (p k : ℕ) → p ≡ at + n → length v ≡ k → next ≡ placed m p v → Entered d at (n + k) next (fields ++ v)
+entered-more {d} {at} {n} {m} {fields} g h v next p k e l q = record {
   bytes = q ∙ ap (λ (x : List ℕ). placed x p v) (g .bytes) ∙ placed-more d fields v at p (rw (g .long) (sym e)) h;
   long = length-append fields v ∙ rw (g .long, l);
 }
 
--- ---- a new block, and the fields that are placed in it so far
+-- fields that fill the list
+pub entered-whole : {d m fields : List ℕ} {n : ℕ} → Entered d 0 n m fields → length d ≡ n → m ≡ fields
+entered-whole {d} {m} {fields} g e =
+    g .bytes ∙ ap (λ (x : List ℕ). fields ++ x) (drop-of-length-le d {i = 0 + length fields} (omega (arith, g .long))) ∙ append-nil fields
+
+-- ---- a new block, and the fields that are entered in it so far
 
 abbrev pub Begun : ℕ → List ℕ → List ℕ → Type 0
-Begun n b fields = Laid (zeros 512) 0 n b fields
+Begun n b fields = Entered (zeros blockLength) 0 n b fields
 
-pub begun-none : Begun 0 (zeros 512) []
+pub begun-none : Begun 0 (zeros blockLength) []
 begun-none = record { bytes = refl; long = refl }
 
 module _ {n : ℕ} {b fields : List ℕ} (g : Begun n b fields) where
   pub begun-more : (v : List ℕ) (k : ℕ) → length v ≡ k → Begun (n + k) (placed b n v) (fields ++ v)
-  begun-more v k e = laid-more g (omega arith) v (placed b n v) n k (omega arith) e refl
+  begun-more v k e = entered-more g (omega arith) v (placed b n v) n k (omega arith) e refl
 
-  pub begun-bytes : b ≡ fields ++ zeros (512 - n)
+  pub begun-bytes : b ≡ begun fields
   begun-bytes =
-      let e : 0 + length fields ≡ n = omega (arith, g .long) in
-      g .bytes ∙ ap (λ (k : ℕ). fields ++ drop k (zeros 512)) e ∙ ap (λ (x : List ℕ). fields ++ x) (drop-zeros n 512)
+      let e : 0 + length fields ≡ length fields = omega arith in
+      g .bytes ∙ ap (λ (k : ℕ). fields ++ drop k (zeros blockLength)) e ∙ ap (λ (x : List ℕ). fields ++ x) (drop-zeros (length fields) blockLength)
 
   -- k zeros that stay
-  pub begun-gap : (k : ℕ) → n + k ≤ 512 → Begun (n + k) b (fields ++ zeros k)
-  begun-gap k h = record { bytes = begun-bytes ∙ ap (λ (x : List ℕ). fields ++ x) rest ∙ sym (append-assoc fields (zeros k) (drop (0 + length (fields ++ zeros k)) (zeros 512))); long = long }
+  pub begun-gap : (k : ℕ) → n + k ≤ blockLength → Begun (n + k) b (fields ++ zeros k)
+  begun-gap k h = record { bytes = begun-bytes ∙ ap (λ (x : List ℕ). fields ++ x) rest ∙ sym (append-assoc fields (zeros k) (drop (0 + length (fields ++ zeros k)) (zeros blockLength))); long = long }
     where
       long : length (fields ++ zeros k) ≡ n + k
       long = length-append fields (zeros k) ∙ rw (g .long, length-replicate {A = ℕ} k 0)
 
-      rest : zeros (512 - n) ≡ zeros k ++ drop (0 + length (fields ++ zeros k)) (zeros 512)
-      rest =
-          let e : 512 - (0 + length (fields ++ zeros k)) ≡ 512 - (n + k) = omega (arith, long) in
-          rw (drop-zeros (0 + length (fields ++ zeros k)) 512, e) (split-zeros k (512 - (n + k)) (512 - n) (omega arith))
+      rest : zeros (blockLength - length fields) ≡ zeros k ++ drop (0 + length (fields ++ zeros k)) (zeros blockLength)
+      rest = rw (drop-zeros (0 + length (fields ++ zeros k)) blockLength) (split-zeros k (blockLength - (0 + length (fields ++ zeros k))) (blockLength - length fields) (omega (arith, long, g .long)))

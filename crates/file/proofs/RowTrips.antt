@@ -18,7 +18,7 @@ use mir.Val.{SFits, toZ, ofZ}
 use mir.ValLaws.{toZ-ofZ, ofZ-toZ, ofZ-fits}
 use Rattle.circuit.specs.Counting.{between}
 use Rattle.circuit.specs.Record.{soundPart}
-use Rattle.circuit.specs.File.{bytes, numberOf, numberAt, zeros, floatBytes, signedAt, signedBytes, rowFields, partFields, joinNumber, partOf, rowFrom, clear, clearRow}
+use Rattle.circuit.specs.File.{rowLength, bytes, numberOf, numberAt, zeros, floatBytes, signedAt, signedBytes, rowFields, partFields, rowBytes, joinNumber, partOf, rowFrom, clear, clearRow}
 use Rattle.circuit.specs.declared.Element.the-variants.{Resistor, Capacitor, Inductor, Input, Steady}
 use Rattle.circuit.specs.declared.Join.{Join}
 use Rattle.circuit.specs.declared.Join.the-variants.{Series, Parallel}
@@ -26,11 +26,10 @@ use Rattle.circuit.specs.declared.Part.{Part}
 use Rattle.circuit.specs.declared.Part.the-variants.{Blank, Leaf, Adaptor}
 use Rattle.circuit.specs.declared.Row.{Row}
 use Rattle.file.specs.Held.{Bytes, HeldPart}
-use Rattle.file.specs.Placing.{rowBytes}
 use Rattle.file.proofs.Digits.{number-bytes, length-bytes, part-below, part-back}
 use Rattle.file.proofs.Clear.{clear-zeros, zeros-clear, clear-number}
 use Rattle.file.proofs.Fields.{part-same}
-use Rattle.file.proofs.Tables.{onward, within}
+use Rattle.file.proofs.Tables.{part-more, part-inner}
 
 -- ---- values
 
@@ -75,26 +74,26 @@ all-true p q r s t = rw (p, q, r, s, t)
 
 -- ---- from a row to bytes that pass
 
-module _ (s : List ℕ) (at k a b : ℕ) (v : ℤ) (value : List ℕ) (e : take 16 (drop at s) ≡ rowFields k a b v value) (c : Clean k a b v value) where
-  field : (i n : ℕ) → i + n ≤ 16 → take n (drop (at + i) s) ≡ take n (drop i (rowFields k a b v value))
-  field i n h = sym (within s at 16 i n h) ∙ ap (λ (l : List ℕ). take n (drop i l)) e
+module _ (s : List ℕ) (at k a b : ℕ) (v : ℤ) (value : List ℕ) (e : take rowLength (drop at s) ≡ rowFields k a b v value) (c : Clean k a b v value) where
+  row-field : (i n : ℕ) → i + n ≤ rowLength → take n (drop (at + i) s) ≡ take n (drop i (rowFields k a b v value))
+  row-field i n h = sym (part-inner s at rowLength i n h) ∙ ap (λ (l : List ℕ). take n (drop i l)) e
 
-  kind-read : numberAt 1 at s ≡ k
+  row-kind-read : numberAt 1 at s ≡ k
   unfolding bytes
-  kind-read =
-      ap numberOf (sym (take-take 1 16 (drop at s) (omega arith)) ∙ ap (take 1) e)
+  row-kind-read =
+      ap numberOf (sym (take-take 1 rowLength (drop at s) (omega arith)) ∙ ap (take 1) e)
       ∙ number-bytes 1 k (omega (arith, c .listed))
 
   clean-passes : length value ≡ 8 → clearRow (numberAt 1 at s) at s ≡ true
   unfolding bytes
   clean-passes n =
-      ap (λ (q : ℕ). clearRow q at s) kind-read
+      ap (λ (q : ℕ). clearRow q at s) row-kind-read
       ∙ all-true (le-leb k 7 (c .listed))
       (or-from (between 6 7 k) (clear 2 (at + 1) s)
-      (λ f. zeros-clear 2 (at + 1) s (field 1 2 (omega arith) ∙ ap (λ (q : ℕ). q % 256 ∷ b % 256 ∷ []) (c .children f .0) ∙ ap (λ (q : ℕ). 0 ∷ q % 256 ∷ []) (c .children f .1))))
-      (zeros-clear 1 (at + 3) s (field 3 1 (omega arith)))
-      (or-from (eqb k 5) (clear 4 (at + 4) s) (λ f. zeros-clear 4 (at + 4) s (field 4 4 (omega arith) ∙ ap signedBytes (c .volts f))))
-      (or-from (between 1 5 k) (clear 8 (at + 8) s) (λ f. zeros-clear 8 (at + 8) s (field 8 8 (omega arith) ∙ ap (take 8) (c .empty f))))
+      (λ f. zeros-clear 2 (at + 1) s (row-field 1 2 (omega arith) ∙ ap (λ (q : ℕ). q % 256 ∷ b % 256 ∷ []) (c .children f .0) ∙ ap (λ (q : ℕ). 0 ∷ q % 256 ∷ []) (c .children f .1))))
+      (zeros-clear 1 (at + 3) s (row-field 3 1 (omega arith)))
+      (or-from (eqb k 5) (clear 4 (at + 4) s) (λ f. zeros-clear 4 (at + 4) s (row-field 4 4 (omega arith) ∙ ap signedBytes (c .volts f))))
+      (or-from (between 1 5 k) (clear 8 (at + 8) s) (λ f. zeros-clear 8 (at + 8) s (row-field 8 8 (omega arith) ∙ ap (take 8) (c .empty f))))
 
 leaf-clean : (k : ℕ) (v : ℤ) (value : List ℕ) → k ≤ 7 → between 1 5 k ≡ true → (eqb k 5 ≡ false → v ≡ pos 0) → Clean k 0 0 v value
 leaf-clean k v value h e f = record { listed = h; children = λ g. (refl, refl); volts = f; empty = λ g. cc }
@@ -103,18 +102,18 @@ leaf-clean k v value h e f = record { listed = h; children = λ g. (refl, refl);
 
 module _ (s : List ℕ) (at : ℕ) where
   leaf-passes : (k : ℕ) (v : ℤ) (x : Float) → k ≤ 7 → between 1 5 k ≡ true → (eqb k 5 ≡ false → v ≡ pos 0)
-      → take 16 (drop at s) ≡ rowFields k 0 0 v (floatBytes x) → clearRow (numberAt 1 at s) at s ≡ true
+      → take rowLength (drop at s) ≡ rowFields k 0 0 v (floatBytes x) → clearRow (numberAt 1 at s) at s ≡ true
   leaf-passes k v x h e f g = clean-passes s at k 0 0 v (floatBytes x) g (leaf-clean k v (floatBytes x) h e f) (length-bytes 8 (toBits binary64 x))
 
-  joint-passes : (k a b : ℕ) → k ≤ 7 → between 6 7 k ≡ true → eqb k 5 ≡ false → take 16 (drop at s) ≡ rowFields k a b (pos 0) (zeros 8) → clearRow (numberAt 1 at s) at s ≡ true
+  joint-passes : (k a b : ℕ) → k ≤ 7 → between 6 7 k ≡ true → eqb k 5 ≡ false → take rowLength (drop at s) ≡ rowFields k a b (pos 0) (zeros 8) → clearRow (numberAt 1 at s) at s ≡ true
   joint-passes k a b h e f g =
       clean-passes s at k a b (pos 0) (zeros 8) g (record { listed = h; children = λ q. ((cc), (cc)); volts = λ q. refl; empty = λ q. refl }) refl
 
-  adaptor-passes : (j : Join) (a b : ℕ) → take 16 (drop at s) ≡ rowFields (joinNumber j) a b (pos 0) (zeros 8) → clearRow (numberAt 1 at s) at s ≡ true
+  adaptor-passes : (j : Join) (a b : ℕ) → take rowLength (drop at s) ≡ rowFields (joinNumber j) a b (pos 0) (zeros 8) → clearRow (numberAt 1 at s) at s ≡ true
   adaptor-passes Series a b e = joint-passes 6 a b (omega arith) refl refl e
   adaptor-passes Parallel a b e = joint-passes 7 a b (omega arith) refl refl e
 
-  part-passes : (p : Part) → take 16 (drop at s) ≡ partFields p → clearRow (numberAt 1 at s) at s ≡ true
+  part-passes : (p : Part) → take rowLength (drop at s) ≡ partFields p → clearRow (numberAt 1 at s) at s ≡ true
   unfolding partFields
   part-passes Blank e =
       clean-passes s at 0 0 0 (pos 0) (zeros 8) e (record { listed = zero-le; children = λ q. (refl, refl); volts = λ q. refl; empty = λ q. refl }) refl
@@ -125,7 +124,8 @@ module _ (s : List ℕ) (at : ℕ) where
   part-passes (Leaf (Steady r v)) e = leaf-passes 5 v r (omega arith) refl (λ q. cc) e
   part-passes (Adaptor d) e = adaptor-passes (d .join) (d .first) (d .second) e
 
-  pub row-passes : (w : Row) → take 16 (drop at s) ≡ rowBytes w → clearRow (numberAt 1 at s) at s ≡ true
+  pub row-passes : (w : Row) → take rowLength (drop at s) ≡ rowBytes w → clearRow (numberAt 1 at s) at s ≡ true
+  unfolding rowBytes
   row-passes w e = part-passes (w .part) e
 
 -- ---- from a row to bytes and back
@@ -152,21 +152,22 @@ part-read (Leaf (Steady r v)) h =
     ∙ ap (λ (z : ℤ). record { part = Leaf (Steady r z) }) (signed-read v (h .1))
 part-read (Adaptor d) h = adaptor-read (d .join) (d .first) (d .second) (h .0) (h .1)
 
--- what 16 bytes say is said by them alone
-row-alone : (s l : List ℕ) (at : ℕ) → take 16 (drop at s) ≡ l → rowFrom at s ≡ rowFrom 0 l
+-- what a row's bytes say is said by them alone
+row-alone : (s l : List ℕ) (at : ℕ) → take rowLength (drop at s) ≡ l → rowFrom at s ≡ rowFrom 0 l
 row-alone s l at e =
     ap (λ (p : Part). record { part = p })
     (part-same _ _ _ _ _ _ _ _ _ _
-    (ap numberOf (sym (take-take 1 16 (drop at s) (omega arith)) ∙ ap (take 1) e))
+    (ap numberOf (sym (take-take 1 rowLength (drop at s) (omega arith)) ∙ ap (take 1) e))
     (number 1 1 (omega arith))
     (number 2 1 (omega arith))
     (ap (toZ w32) (number 4 4 (omega arith)))
     (ap (ofBits binary64) (number 8 8 (omega arith))))
   where
-    number : (i k : ℕ) → i + k ≤ 16 → numberAt k (at + i) s ≡ numberAt k i l
-    number i k h = ap numberOf (sym (within s at 16 i k h) ∙ ap (λ (m : List ℕ). take k (drop i m)) e)
+    number : (i k : ℕ) → i + k ≤ rowLength → numberAt k (at + i) s ≡ numberAt k i l
+    number i k h = ap numberOf (sym (part-inner s at rowLength i k h) ∙ ap (λ (m : List ℕ). take k (drop i m)) e)
 
-pub row-read : (s : List ℕ) (at : ℕ) (w : Row) → HeldPart (w .part) → take 16 (drop at s) ≡ rowBytes w → rowFrom at s ≡ w
+pub row-read : (s : List ℕ) (at : ℕ) (w : Row) → HeldPart (w .part) → take rowLength (drop at s) ≡ rowBytes w → rowFrom at s ≡ w
+unfolding rowBytes
 row-read s at w h e = row-alone s (rowBytes w) at e ∙ part-read (w .part) h
 
 -- ---- from bytes that pass to a row and back
@@ -190,11 +191,11 @@ clean-back (suc (suc (suc (suc (suc (suc zero)))))) a b m n h c p = rw (c .volts
 clean-back (suc (suc (suc (suc (suc (suc (suc zero))))))) a b m n h c p = rw (c .volts refl, c .empty refl)
 clean-back (suc (suc (suc (suc (suc (suc (suc (suc k)))))))) a b m n h c p = absurd (let l = c .listed in omega arith)
 
-module _ (s : List ℕ) (bs : Bytes s) (at : ℕ) (h : at + 16 ≤ length s) (e : clearRow (numberAt 1 at s) at s ≡ true) where
+module _ (s : List ℕ) (bs : Bytes s) (at : ℕ) (h : at + rowLength ≤ length s) (e : clearRow (numberAt 1 at s) at s ≡ true) where
   -- the five tests of the rule
-  tests : (leb (numberAt 1 at s) 7 ≡ true) × ((between 6 7 (numberAt 1 at s) || clear 2 (at + 1) s) ≡ true) × (clear 1 (at + 3) s ≡ true)
+  row-tests : (leb (numberAt 1 at s) 7 ≡ true) × ((between 6 7 (numberAt 1 at s) || clear 2 (at + 1) s) ≡ true) × (clear 1 (at + 3) s ≡ true)
       × ((eqb (numberAt 1 at s) 5 || clear 4 (at + 4) s) ≡ true) × ((between 1 5 (numberAt 1 at s) || clear 8 (at + 8) s) ≡ true)
-  tests =
+  row-tests =
       let t₄ = and-eq-true-iff _ _ .0 e in
       let t₃ = and-eq-true-iff _ _ .0 (t₄ .0) in
       let t₂ = and-eq-true-iff _ _ .0 (t₃ .0) in
@@ -207,26 +208,27 @@ module _ (s : List ℕ) (bs : Bytes s) (at : ℕ) (h : at + 16 ≤ length s) (e 
       let z = clear-zeros 2 (at + 1) s (omega arith) c in
       let q : at + 1 + 1 ≡ at + 2 = omega arith in (
         ap numberOf (sym (take-take 1 2 (drop (at + 1) s) (omega arith)) ∙ ap (take 1) z),
-        ap numberOf (ap (λ (p : ℕ). take 1 (drop p s)) (sym q) ∙ sym (within s (at + 1) 2 1 1 (omega arith)) ∙ ap (λ (l : List ℕ). take 1 (drop 1 l)) z),
+        ap numberOf (ap (λ (p : ℕ). take 1 (drop p s)) (sym q) ∙ sym (part-inner s (at + 1) 2 1 1 (omega arith)) ∙ ap (λ (l : List ℕ). take 1 (drop 1 l)) z),
       )
 
   read-clean : Clean (numberAt 1 at s) (numberAt 1 (at + 1) s) (numberAt 1 (at + 2) s) (signedAt (at + 4) s) (bytes 8 (numberAt 8 (at + 8) s))
   read-clean = record {
-    listed = leb-true _ _ (tests .0);
-    children = λ f. children-clear (or-left _ _ (tests .1) f);
-    volts = λ f. ap (toZ w32) (clear-number 4 (at + 4) s (omega arith) (or-left _ _ (tests .3) f));
-    empty = λ f. part-back s bs (at + 8) 8 (omega arith) ∙ clear-zeros 8 (at + 8) s (omega arith) (or-left _ _ (tests .4) f);
+    listed = leb-true _ _ (row-tests .0);
+    children = λ f. children-clear (or-left _ _ (row-tests .1) f);
+    volts = λ f. ap (toZ w32) (clear-number 4 (at + 4) s (omega arith) (or-left _ _ (row-tests .3) f));
+    empty = λ f. part-back s bs (at + 8) 8 (omega arith) ∙ clear-zeros 8 (at + 8) s (omega arith) (or-left _ _ (row-tests .4) f);
   }
 
-  fields-back : rowFields (numberAt 1 at s) (numberAt 1 (at + 1) s) (numberAt 1 (at + 2) s) (signedAt (at + 4) s) (bytes 8 (numberAt 8 (at + 8) s)) ≡ take 16 (drop at s)
+  fields-back : rowFields (numberAt 1 at s) (numberAt 1 (at + 1) s) (numberAt 1 (at + 2) s) (signedAt (at + 4) s) (bytes 8 (numberAt 8 (at + 8) s)) ≡ take rowLength (drop at s)
   fields-back =
-      onward s at 8 8 (at + 8) _ _ refl
-      (onward s at 4 4 (at + 4) _ _ refl
-      (onward s at 3 1 (at + 3) _ _ refl
-      (onward s at 2 1 (at + 2) _ _ refl (onward s at 1 1 (at + 1) _ _ refl (part-back s bs at 1 (omega arith)) (part-back s bs (at + 1) 1 (omega arith))) (part-back s bs (at + 2) 1 (omega arith)))
-      (sym (clear-zeros 1 (at + 3) s (omega arith) (tests .2))))
+      part-more s at 8 8 (at + 8) _ _ refl
+      (part-more s at 4 4 (at + 4) _ _ refl
+      (part-more s at 3 1 (at + 3) _ _ refl
+      (part-more s at 2 1 (at + 2) _ _ refl (part-more s at 1 1 (at + 1) _ _ refl (part-back s bs at 1 (omega arith)) (part-back s bs (at + 1) 1 (omega arith))) (part-back s bs (at + 2) 1 (omega arith)))
+      (sym (clear-zeros 1 (at + 3) s (omega arith) (row-tests .2))))
       (signed-written (numberAt 4 (at + 4) s) (part-below s bs (at + 4) 4 (omega arith)) ∙ part-back s bs (at + 4) 4 (omega arith)))
       (part-back s bs (at + 8) 8 (omega arith))
 
-  pub row-back : soundPart (rowFrom at s .part) ≡ true → rowBytes (rowFrom at s) ≡ take 16 (drop at s)
+  pub row-back : soundPart (rowFrom at s .part) ≡ true → rowBytes (rowFrom at s) ≡ take rowLength (drop at s)
+  unfolding rowBytes
   row-back p = clean-back _ _ _ (numberAt 4 (at + 4) s) (numberAt 8 (at + 8) s) (part-below s bs (at + 8) 8 (omega arith)) read-clean p ∙ fields-back

@@ -9,7 +9,7 @@ use mathlib.Core.List.{List, [], _∷_, _++_, map, append-assoc, append-nil}
 use lib.ListN.{length, getD, take, drop, set, length-append}
 use lib.Seq.{take-suc, take-suc-set, take-all, take-add, take-at, drop-at, drop-drop}
 use Rattle.circuit.specs.Counting.{table}
-use Rattle.circuit.specs.File.{joined}
+use Rattle.circuit.specs.File.{concat}
 use Rattle.laws.proofs.Counting.{table-step}
 use Rattle.file.specs.Placing.{placed}
 use Rattle.file.proofs.Placed.{inner, Begun, begun-more}
@@ -26,63 +26,63 @@ module _ {A : Type 0} (f : ℕ → A) (out : List A) where
 -- ---- a part of a list
 
 -- a part of a part
-pub within : (s : List ℕ) (at w i k : ℕ) → i + k ≤ w → take k (drop i (take w (drop at s))) ≡ take k (drop (at + i) s)
-within s at w i k h = inner i w k (drop at s) h ∙ ap (take k) (drop-drop i at s)
+pub part-inner : (s : List ℕ) (at w i k : ℕ) → i + k ≤ w → take k (drop i (take w (drop at s))) ≡ take k (drop (at + i) s)
+part-inner s at w i k h = inner i w k (drop at s) h ∙ ap (take k) (drop-drop i at s)
 
 -- n bytes from `at` on, and k more
-pub onward : (s : List ℕ) (at n k p : ℕ) (front v : List ℕ) → p ≡ at + n → front ≡ take n (drop at s) → v ≡ take k (drop p s) → front ++ v ≡ take (n + k) (drop at s)
-onward s at n k p front v e f g = rw (f, g, e, ← drop-drop n at s) (sym (take-add n k (drop at s)))
+pub part-more : (s : List ℕ) (at n k p : ℕ) (front v : List ℕ) → p ≡ at + n → front ≡ take n (drop at s) → v ≡ take k (drop p s) → front ++ v ≡ take (n + k) (drop at s)
+part-more s at n k p front v e f g = rw (f, g, e, ← drop-drop n at s) (sym (take-add n k (drop at s)))
 
 -- ---- pieces, one after another
 
-pub joined-snoc : {A : Type 0} (f : A → List ℕ) (xs : List A) (a : A) → joined (map f (xs ++ (a ∷ []))) ≡ joined (map f xs) ++ f a
-unfolding joined
-joined-snoc f [] a = append-nil (f a)
-joined-snoc f (x ∷ xs) a = ap (λ (r : List ℕ). f x ++ r) (joined-snoc f xs a) ∙ sym (append-assoc (f x) (joined (map f xs)) (f a))
+concat-snoc : {A : Type 0} (f : A → List ℕ) (xs : List A) (a : A) → concat (map f (xs ++ (a ∷ []))) ≡ concat (map f xs) ++ f a
+unfolding concat
+concat-snoc f [] a = append-nil (f a)
+concat-snoc f (x ∷ xs) a = ap (λ (r : List ℕ). f x ++ r) (concat-snoc f xs a) ∙ sym (append-assoc (f x) (concat (map f xs)) (f a))
 
 module _ {A : Type 0} (f : A → List ℕ) (w : ℕ) (size : (a : A) → length (f a) ≡ w) (xs : List A) where
-  pub pieces-none : (b : List ℕ) → Begun 0 b [] → Begun (w * 0) b (joined (map f (take 0 xs)))
-  unfolding joined
+  pub pieces-none : (b : List ℕ) → Begun 0 b [] → Begun (w * 0) b (concat (map f (take 0 xs)))
+  unfolding concat
   pieces-none b g = let e : w * 0 ≡ 0 = omega arith in rw e g
 
-  pub pieces-more : (b : List ℕ) (i : ℕ) (z : A) → i < length xs → Begun (w * i) b (joined (map f (take i xs)))
-      → Begun (w * (i + 1)) (placed b (w * i) (f (getD xs i z))) (joined (map f (take (i + 1) xs)))
+  pub pieces-more : (b : List ℕ) (i : ℕ) (z : A) → i < length xs → Begun (w * i) b (concat (map f (take i xs)))
+      → Begun (w * (i + 1)) (placed b (w * i) (f (getD xs i z))) (concat (map f (take (i + 1) xs)))
   pieces-more b i z h g =
       let e : w * (i + 1) ≡ w * i + w = omega arith in
-      rw (e, add-one, take-suc xs i z h, joined-snoc f (take i xs) (getD xs i z)) (begun-more g (f (getD xs i z)) w (size (getD xs i z)))
+      rw (e, add-one, take-suc xs i z h, concat-snoc f (take i xs) (getD xs i z)) (begun-more g (f (getD xs i z)) w (size (getD xs i z)))
 
-  pub pieces-all : (b : List ℕ) (i n : ℕ) → i ≡ n → length xs ≡ n → Begun (w * i) b (joined (map f (take i xs))) → Begun (w * n) b (joined (map f xs))
+  pub pieces-all : (b : List ℕ) (i n : ℕ) → i ≡ n → length xs ≡ n → Begun (w * i) b (concat (map f (take i xs))) → Begun (w * n) b (concat (map f xs))
   pieces-all b i n e l g = rw (e, take-all n xs (omega arith)) at g
 
 -- ---- pieces of w bytes, found again
 
 module _ {A : Type 0} (f : A → List ℕ) (w : ℕ) (z : A) where
-  pub pieces-length : (xs : List A) → ((j : ℕ) → j < length xs → length (f (getD xs j z)) ≡ w) → length (joined (map f xs)) ≡ w * length xs
-  unfolding joined
+  pub pieces-length : (xs : List A) → ((j : ℕ) → j < length xs → length (f (getD xs j z)) ≡ w) → length (concat (map f xs)) ≡ w * length xs
+  unfolding concat
   pieces-length [] h = omega arith
   pieces-length (x ∷ xs) h =
       let e : length (f x) ≡ w = h 0 (omega arith) in
-      let q : length (joined (map f xs)) ≡ w * length xs = pieces-length xs (λ j l. h (suc j) (omega arith)) in
-      length-append (f x) (joined (map f xs)) ∙ omega (arith, e, q, mul-suc w (length xs))
+      let q : length (concat (map f xs)) ≡ w * length xs = pieces-length xs (λ j l. h (suc j) (omega arith)) in
+      length-append (f x) (concat (map f xs)) ∙ omega (arith, e, q, mul-suc w (length xs))
 
   -- piece j, with anything behind the pieces
   pub pieces-at : (xs : List A) (t : List ℕ) → ((j : ℕ) → j < length xs → length (f (getD xs j z)) ≡ w)
-      → (j : ℕ) → j < length xs → take w (drop (w * j) (joined (map f xs) ++ t)) ≡ f (getD xs j z)
-  unfolding joined
+      → (j : ℕ) → j < length xs → take w (drop (w * j) (concat (map f xs) ++ t)) ≡ f (getD xs j z)
+  unfolding concat
   pieces-at [] t h j l = absurd (omega arith)
   pieces-at (x ∷ xs) t h zero l =
       let e : w * 0 ≡ 0 = omega arith in
-      rw (e, append-assoc (f x) (joined (map f xs)) t) (take-at (f x) (joined (map f xs) ++ t) w (h 0 (omega arith)))
+      rw (e, append-assoc (f x) (concat (map f xs)) t) (take-at (f x) (concat (map f xs) ++ t) w (h 0 (omega arith)))
   pieces-at (x ∷ xs) t h (suc j) l =
       let e : w * suc j ≡ w + w * j = omega (arith, mul-suc w j) in
-      rw (e, append-assoc (f x) (joined (map f xs)) t, ← drop-drop (w * j) w (f x ++ (joined (map f xs) ++ t)), drop-at (f x) (joined (map f xs) ++ t) w (h 0 (omega arith)))
+      rw (e, append-assoc (f x) (concat (map f xs)) t, ← drop-drop (w * j) w (f x ++ (concat (map f xs) ++ t)), drop-at (f x) (concat (map f xs) ++ t) w (h 0 (omega arith)))
       (pieces-at xs t (λ i k. h (suc i) (omega arith)) j (omega arith))
 
   -- pieces that are each a part of a list are a part of it together
-  pub pieces-back : (g : ℕ → A) (n : ℕ) (l : List ℕ) → ((j : ℕ) → j < n → f (g j) ≡ take w (drop (w * j) l)) → joined (map f (table g n)) ≡ take (w * n) l
-  unfolding table joined
+  pub pieces-back : (g : ℕ → A) (n : ℕ) (l : List ℕ) → ((j : ℕ) → j < n → f (g j) ≡ take w (drop (w * j) l)) → concat (map f (table g n)) ≡ take (w * n) l
+  unfolding table concat
   pieces-back g zero l h = let e : w * 0 ≡ 0 = omega arith in rw e
   pieces-back g (suc n) l h =
       let e : w * suc n ≡ w * n + w = omega (arith, mul-suc w n) in
-      joined-snoc f (table g n) (g n)
+      concat-snoc f (table g n) (g n)
       ∙ rw (pieces-back g n l (λ j k. h j (omega arith)), h n (omega arith), e) (sym (take-add (w * n) w l))

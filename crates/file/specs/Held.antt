@@ -7,7 +7,7 @@ use lib.ListN.{getD}
 use lib.Ieee.{binary64, fits}
 use mir.Syntax.{w32}
 use mir.Val.{SFits}
-use Rattle.circuit.specs.Record.{rowLimit, columnLimit, partAt, columnAt}
+use Rattle.circuit.specs.Record.{partAt, columnAt}
 use Rattle.circuit.specs.declared.Element.{Element}
 use Rattle.circuit.specs.declared.Element.the-variants.{Resistor, Capacitor, Inductor, Input, Steady}
 use Rattle.circuit.specs.declared.Part.{Part}
@@ -43,5 +43,5 @@ pub record Held (r : Record) : Type 0 where
   pub tap : r .tap < 256
   pub width : r .width < 256
   pub resistance : T (fits binary64 (r .resistance))
-  pub parts : (j : ℕ) → j < rowLimit → HeldPart (partAt r j)
-  pub columns : (i : ℕ) → i < columnLimit → HeldColumn (columnAt r i)
+  pub parts : (j : ℕ) → HeldPart (partAt r j)
+  pub columns : (i : ℕ) → HeldColumn (columnAt r i)

@@ -1,21 +1,19 @@
-// A block of 512 bytes: its check, and the place for it in the last four bytes.
+// A block of a file: its check, and the place for it in the last four bytes.
 use crate::bytes;
+use circuit::BLOCK_LENGTH;
+use circuit::CHECK_PLACE;
 ghost use mathlib.Core.Path.{_≡_};
-ghost use Prim.Native.Nat.{_+_, _*_, _≤_, _<_};
+ghost use Prim.Native.Nat.{_+_, _*_, _≤_};
 ghost use lib.ListN.{length};
-ghost use Rattle.circuit.specs.File.{checkOf};
-ghost use Rattle.file.specs.Placing.{placed, sealed, wrongBlock};
-
-pub(crate) const LENGTH: usize = 512;
+ghost use Rattle.circuit.specs.File.{blockLength, checkOf, wrongCheck};
+ghost use Rattle.file.specs.Placing.{placed, sealed};
 
 // The words that are summed stand before the check.
 const WORDS: usize = 127;
 
-const CHECK: usize = 508;
-
 // The check of block `k`.
-fn check_of(s: &[u8], k: u32) -> u32
-    requires { ⌜ length (now s) ≡ 512 ⌝ }
+fn check_of(s: &[u8], k: u8) -> u32
+    requires { ⌜ length (now s) ≡ blockLength ⌝ }
     ensures { λ r. ⌜ r ≡ checkOf k (now (s .entry)) ⌝ }
 {
     let mut sum: u64 = 0;
@@ -27,29 +25,29 @@ fn check_of(s: &[u8], k: u32) -> u32
     ((sum + k as u64 + 1) % 4294967296) as u32
 }
 
+// Whether the check of block `k` of a file is wrong.
+pub(crate) fn is_wrong(s: &[u8], k: u8) -> bool
+    requires { ⌜ blockLength * k + blockLength ≤ length (now s) ⌝ }
+    ensures { λ r. ⌜ r ≡ wrongCheck (now (s .entry)) k ⌝ }
+{
+    let a = BLOCK_LENGTH * k as usize;
+    let e = a + BLOCK_LENGTH;
+    let b = &s[a..e];
+    bytes::word(b, CHECK_PLACE) != check_of(b, k)
+}
+
 // The block with its check in its place.
-pub(crate) fn seal(b: [u8; 512], k: u32) -> [u8; 512]
+fn seal(b: [u8; BLOCK_LENGTH], k: u8) -> [u8; BLOCK_LENGTH]
     ensures { λ r. ⌜ r ≡ sealed k b ⌝ }
 {
     let mut r = b;
     let check = check_of(&r, k);
-    bytes::put(&mut r, CHECK, 4, check as u64);
+    bytes::put(&mut r, CHECK_PLACE, 4, check as u64);
     r
 }
 
-// Whether the check of block `k` of a file is wrong.
-pub(crate) fn is_wrong(s: &[u8], k: usize) -> bool
-    requires { ⌜ (k < 3) × (length (now s) ≡ 1536) ⌝ }
-    ensures { λ r. ⌜ r ≡ wrongBlock (now (s .entry)) k ⌝ }
-{
-    let a = LENGTH * k;
-    let e = a + LENGTH;
-    let b = &s[a..e];
-    bytes::word(b, CHECK) != check_of(b, k as u32)
-}
-
-// All of a block, placed in `out` from `at` on.
-pub(crate) fn place(out: &mut [u8], at: usize, b: &[u8])
+// All of `b`, placed in `out` from `at` on.
+fn place(out: &mut [u8], at: usize, b: &[u8])
     requires { ⌜ at + length (now b) ≤ length (now out) ⌝ }
     ensures { λ _. ⌜ now (out .exit) ≡ placed (now (out .entry)) at (now (b .entry)) ⌝ }
 {
@@ -58,4 +56,13 @@ pub(crate) fn place(out: &mut [u8], at: usize, b: &[u8])
         out[at + i] = b[i];
         i += 1;
     }
+}
+
+// Block `k` of a file, with its check.
+pub(crate) fn write(out: &mut [u8], k: u8, b: [u8; BLOCK_LENGTH])
+    requires { ⌜ blockLength * k + blockLength ≤ length (now out) ⌝ }
+    ensures { λ _. ⌜ now (out .exit) ≡ placed (now (out .entry)) (blockLength * k) (sealed k b) ⌝ }
+{
+    let r = seal(b, k);
+    place(out, BLOCK_LENGTH * k as usize, &r);
 }

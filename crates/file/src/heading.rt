@@ -1,8 +1,9 @@
-// Block 0, with the record that a whole file holds, and the record of zeros.
-use crate::block;
+// The heading, which is block 0; the record that a whole file holds, and the record of zeros.
 use crate::bytes;
 use crate::column;
 use crate::row;
+use circuit::BLOCK_LENGTH;
+use circuit::CHECK_PLACE;
 use circuit::COLUMNS;
 use circuit::Column;
 use circuit::CurveKind;
@@ -12,10 +13,16 @@ use circuit::Record;
 use circuit::Row;
 ghost use mathlib.Core.Path.{_≡_};
 ghost use lib.ListN.{length};
-ghost use Rattle.circuit.specs.File.{kindNumber, kindOf, heading, recordOf, noRecord, block};
+ghost use Rattle.circuit.specs.File.{fileLength, kindNumber, kindOf, heading, recordOf, noRecord};
+ghost use Rattle.file.specs.Placing.{begun};
 
 // The only version so far.
 pub(crate) const VERSION: u64 = 1;
+
+// Where the fields end, and how many bytes are left between them and the check.
+pub(crate) const END: usize = 24;
+
+pub(crate) const LEFT: usize = CHECK_PLACE - END;
 
 // A number past the list of kinds is read as unset, and refused elsewhere.
 fn kind_of(n: u8) -> CurveKind
@@ -38,13 +45,13 @@ fn kind_number(kind: CurveKind) -> u8
     }
 }
 
-pub(crate) fn heading_block(r: Record) -> [u8; 512]
-    ensures { λ b. ⌜ b ≡ block 0 (heading r) ⌝ }
+pub(crate) fn heading_block(r: Record) -> [u8; BLOCK_LENGTH]
+    ensures { λ b. ⌜ b ≡ begun (heading r) ⌝ }
 {
     let kind = r.kind;
     let number = kind_number(kind);
     let resistance = bytes::bits(r.resistance);
-    let mut b = [0u8; 512];
+    let mut b = [0u8; BLOCK_LENGTH];
     bytes::put(&mut b, 0, 2, VERSION);
     bytes::put(&mut b, 2, 1, r.count as u64);
     bytes::put(&mut b, 3, 1, r.tap as u64);
@@ -52,11 +59,11 @@ pub(crate) fn heading_block(r: Record) -> [u8; 512]
     bytes::put(&mut b, 5, 1, r.width as u64);
     bytes::put(&mut b, 8, 4, r.rate as u64);
     bytes::put(&mut b, 16, 8, resistance);
-    block::seal(b, 0)
+    b
 }
 
 pub(crate) fn record_of(s: &[u8]) -> Record
-    requires { ⌜ length (now s) ≡ 1536 ⌝ }
+    requires { ⌜ length (now s) ≡ fileLength ⌝ }
     ensures { λ r. ⌜ r ≡ recordOf (now (s .entry)) ⌝ }
 {
     let rate = bytes::word(s, 8);

@@ -8,39 +8,43 @@ mod row;
 mod rules;
 
 use circuit::Answer;
+use circuit::FILE_LENGTH;
 use circuit::Reading;
 use circuit::Record;
 ghost use mathlib.Core.Path.{_≡_};
 ghost use lib.ListN.{length};
-ghost use Rattle.circuit.specs.Numbers.{handed};
-ghost use Rattle.circuit.specs.File.{readReport, readRecord, writeReport, bufferAfter, fileOf};
+ghost use Rattle.circuit.specs.File.{fileLength, noRecord, fileOf};
+ghost use Rattle.circuit.specs.Promises.{Reads, Writes};
 
 // Reads the file that `s` is. On refusal the record is the one of zeros.
 pub fn read(s: &[u8]) -> Reading
-    ensures number { λ r. ⌜ handed (r .answer) ≡ readReport (now (s .entry)) ⌝ }
-    ensures record { λ r. ⌜ r .record ≡ readRecord (now (s .entry)) ⌝ }
+    ensures { λ r. ⌜ Reads (now (s .entry)) r ⌝ }
 {
-    let answer = rules::judged(s);
-    if answer::number(answer) != 0 {
-        let record = heading::no_record();
-        return Reading { answer, record };
+    let judged = rules::judged(s);
+    if answer::number(judged) != 0 {
+        return refused(judged);
     }
     let record = heading::record_of(s);
     let set_up = setup::set_up(record);
     let answer = set_up.answer;
     if answer::number(answer) != 0 {
-        let record = heading::no_record();
-        return Reading { answer, record };
+        return refused(answer);
     }
+    Reading { answer, record }
+}
+
+fn refused(answer: Answer) -> Reading
+    ensures { λ r. ⌜ (r .answer ≡ answer) × (r .record ≡ noRecord) ⌝ }
+{
+    let record = heading::no_record();
     Reading { answer, record }
 }
 
 // Writes the file of the record to `out`. On refusal `out` is left as it is.
 pub fn write(r: Record, out: &mut [u8]) -> Answer
-    ensures number { λ a. ⌜ handed a ≡ writeReport (record { circuit = r; buffer = now (out .entry) }) ⌝ }
-    ensures buffer { λ a. ⌜ now (out .exit) ≡ bufferAfter (record { circuit = r; buffer = now (out .entry) }) ⌝ }
+    ensures { λ a. ⌜ Writes (record { circuit = r; buffer = now (out .entry) }) a (now (out .exit)) ⌝ }
 {
-    if out.len() != rules::FILE {
+    if out.len() != FILE_LENGTH {
         return Answer::Length;
     }
     let set_up = setup::set_up(r);
@@ -52,15 +56,12 @@ pub fn write(r: Record, out: &mut [u8]) -> Answer
 }
 
 fn write_blocks(r: Record, out: &mut [u8])
-    requires { ⌜ length (now out) ≡ 1536 ⌝ }
+    requires { ⌜ length (now out) ≡ fileLength ⌝ }
     ensures { λ _. ⌜ now (out .exit) ≡ fileOf r ⌝ }
 {
     let rows = r.rows;
     let columns = r.columns;
-    let b0 = heading::heading_block(r);
-    let b1 = row::row_block(rows);
-    let b2 = column::column_block(columns);
-    block::place(out, 0, &b0);
-    block::place(out, 512, &b1);
-    block::place(out, 1024, &b2);
+    block::write(out, 0, heading::heading_block(r));
+    block::write(out, 1, row::row_block(rows));
+    block::write(out, 2, column::column_block(columns));
 }

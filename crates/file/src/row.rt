@@ -1,11 +1,13 @@
-// Block 1: 31 rows of 16 bytes: kind, first child, second child, a zero, steady microvolts, value. What a kind does not use is zero.
-use crate::block;
+// The block of rows, sixteen bytes each: kind, first child, second child, a zero, steady microvolts, value. What a kind does not use is zero.
 use crate::bytes;
 use circuit::Adaptor;
+use circuit::BLOCK_LENGTH;
+use circuit::CHECK_PLACE;
 use circuit::Element;
 use circuit::Join;
 use circuit::Part;
 use circuit::ROWS;
+use circuit::ROWS_PER_BLOCK;
 use circuit::Row;
 ghost use mathlib.Core.Path.{_≡_};
 ghost use mathlib.Core.List.{map};
@@ -13,15 +15,18 @@ ghost use Prim.Native.Nat.{_+_, _≤_};
 ghost use lib.ListN.{length};
 ghost use Rattle.circuit.specs.Counting.{table};
 ghost use Rattle.circuit.specs.Record.{rowLimit};
-ghost use Rattle.circuit.specs.File.{bytes, rowFields, leafFields, partFields, joinNumber, partOf, rowFrom, rowPlace, joined, block};
-ghost use Rattle.file.specs.Placing.{placed, rowBytes};
+ghost use Rattle.circuit.specs.File.{fileLength, rowLength, bytes, rowFields, leafFields, partFields, joinNumber, partOf, rowFrom, rowPlace, rowBytes, concat};
+ghost use Rattle.file.specs.Placing.{placed, begun};
 
-// How many bytes a row has; where row 0 stands in a file, and where the last one ends.
-pub(crate) const SIZE: usize = 16;
+// How many bytes a row has; where row 0 begins in a file, and where the last one of its block ends.
+pub(crate) const LENGTH: usize = 16;
 
-pub(crate) const START: usize = 512;
+pub(crate) const START: usize = BLOCK_LENGTH;
 
-pub(crate) const END: usize = START + SIZE * ROWS;
+pub(crate) const END: usize = START + LENGTH * ROWS_PER_BLOCK;
+
+// How many bytes are left between the last row and the check.
+pub(crate) const LEFT: usize = CHECK_PLACE - LENGTH * ROWS_PER_BLOCK;
 
 // The part of a kind's number; a number past the list of kinds is read as blank, and refused elsewhere.
 fn part_of(kind: u8, first: u8, second: u8, microvolts: i32, value: f64) -> Part
@@ -48,7 +53,7 @@ fn part_of(kind: u8, first: u8, second: u8, microvolts: i32, value: f64) -> Part
 }
 
 fn row_from(s: &[u8], at: usize) -> Row
-    requires { ⌜ at + 16 ≤ length (now s) ⌝ }
+    requires { ⌜ at + rowLength ≤ length (now s) ⌝ }
     ensures { λ r. ⌜ r ≡ rowFrom at (now (s .entry)) ⌝ }
 {
     let kind = bytes::byte(s, at);
@@ -61,20 +66,20 @@ fn row_from(s: &[u8], at: usize) -> Row
 }
 
 pub(crate) fn rows(s: &[u8]) -> [Row; ROWS]
-    requires { ⌜ length (now s) ≡ 1536 ⌝ }
+    requires { ⌜ length (now s) ≡ fileLength ⌝ }
     ensures { λ r. ⌜ r ≡ table (λ j. rowFrom (rowPlace j) (now (s .entry))) rowLimit ⌝ }
 {
     let mut rows = [Row { part: Part::Blank }; ROWS];
     let mut j: usize = 0;
     while j < ROWS {
-        rows[j] = row_from(s, START + SIZE * j);
+        rows[j] = row_from(s, START + LENGTH * j);
         j += 1;
     }
     rows
 }
 
 fn put_fields(b: &mut [u8], at: usize, kind: u8, first: u8, second: u8, microvolts: i32, value: u64)
-    requires { ⌜ at + 16 ≤ length (now b) ⌝ }
+    requires { ⌜ at + rowLength ≤ length (now b) ⌝ }
     ensures { λ _. ⌜ now (b .exit) ≡ placed (now (b .entry)) at (rowFields kind first second microvolts (bytes 8 value)) ⌝ }
 {
     let pattern = bytes::pattern(microvolts);
@@ -87,7 +92,7 @@ fn put_fields(b: &mut [u8], at: usize, kind: u8, first: u8, second: u8, microvol
 }
 
 fn put_leaf(b: &mut [u8], at: usize, e: Element)
-    requires { ⌜ at + 16 ≤ length (now b) ⌝ }
+    requires { ⌜ at + rowLength ≤ length (now b) ⌝ }
     ensures { λ _. ⌜ now (b .exit) ≡ placed (now (b .entry)) at (leafFields e) ⌝ }
 {
     match e {
@@ -109,7 +114,7 @@ fn join_number(k: Join) -> u8
 }
 
 fn put_part(b: &mut [u8], at: usize, part: Part)
-    requires { ⌜ at + 16 ≤ length (now b) ⌝ }
+    requires { ⌜ at + rowLength ≤ length (now b) ⌝ }
     ensures { λ _. ⌜ now (b .exit) ≡ placed (now (b .entry)) at (partFields part) ⌝ }
 {
     match part {
@@ -122,16 +127,16 @@ fn put_part(b: &mut [u8], at: usize, part: Part)
     }
 }
 
-pub(crate) fn row_block(rows: [Row; ROWS]) -> [u8; 512]
-    ensures { λ b. ⌜ b ≡ block 1 (joined (map rowBytes rows)) ⌝ }
+pub(crate) fn row_block(rows: [Row; ROWS]) -> [u8; BLOCK_LENGTH]
+    ensures { λ b. ⌜ b ≡ begun (concat (map rowBytes rows)) ⌝ }
 {
-    let mut b = [0u8; 512];
+    let mut b = [0u8; BLOCK_LENGTH];
     let mut j: usize = 0;
     while j < ROWS {
         let row = rows[j];
         let part = row.part;
-        put_part(&mut b, SIZE * j, part);
+        put_part(&mut b, LENGTH * j, part);
         j += 1;
     }
-    block::seal(b, 1)
+    b
 }

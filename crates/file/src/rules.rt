@@ -5,18 +5,16 @@ use crate::column;
 use crate::heading;
 use crate::row;
 use circuit::Answer;
-use circuit::ROWS;
+use circuit::BLOCK_LENGTH;
+use circuit::FILE_LENGTH;
+use circuit::ROWS_PER_BLOCK;
 ghost use mathlib.Core.Path.{_≡_};
 ghost use mathlib.Core.List.{[], _∷_};
-ghost use Prim.Native.Nat.{_+_, _≤_};
+ghost use Prim.Native.Nat.{_+_, _/_, _≤_, _<_};
 ghost use lib.ListN.{length};
 ghost use Rattle.circuit.specs.Counting.{every};
 ghost use Rattle.circuit.specs.Numbers.{handed, judge, rule};
-ghost use Rattle.circuit.specs.Record.{rowLimit};
-ghost use Rattle.circuit.specs.File.{numberAt, clear, clearRow, rowPlace, checks};
-ghost use Rattle.file.specs.Placing.{clearFile, fileRules};
-
-pub(crate) const FILE: usize = 1536;
+ghost use Rattle.circuit.specs.File.{fileLength, blockLength, rowsPerBlock, rowLength, numberAt, clear, clearRow, rowPlace, checkRule, clearFile, fileRules};
 
 // Whether the `n` bytes from `at` on are zero.
 fn is_clear(s: &[u8], at: usize, n: usize) -> bool
@@ -34,7 +32,7 @@ fn is_clear(s: &[u8], at: usize, n: usize) -> bool
 
 // Whether a row's kind is in the list, and what the kind does not use is zero.
 fn is_clear_row(s: &[u8], at: usize) -> bool
-    requires { ⌜ at + 16 ≤ length (now s) ⌝ }
+    requires { ⌜ at + rowLength ≤ length (now s) ⌝ }
     ensures { λ r. ⌜ r ≡ clearRow (numberAt 1 at (now (s .entry))) at (now (s .entry)) ⌝ }
 {
     let kind = bytes::byte(s, at);
@@ -46,13 +44,13 @@ fn is_clear_row(s: &[u8], at: usize) -> bool
 }
 
 fn are_clear_rows(s: &[u8]) -> bool
-    requires { ⌜ length (now s) ≡ 1536 ⌝ }
-    ensures { λ r. ⌜ r ≡ every (λ j. clearRow (numberAt 1 (rowPlace j) (now (s .entry))) (rowPlace j) (now (s .entry))) rowLimit ⌝ }
+    requires { ⌜ length (now s) ≡ fileLength ⌝ }
+    ensures { λ r. ⌜ r ≡ every (λ j. clearRow (numberAt 1 (rowPlace j) (now (s .entry))) (rowPlace j) (now (s .entry))) rowsPerBlock ⌝ }
 {
     let mut clear = true;
     let mut j: usize = 0;
-    while j < ROWS {
-        clear = clear & is_clear_row(s, row::START + row::SIZE * j);
+    while j < ROWS_PER_BLOCK {
+        clear = clear & is_clear_row(s, row::START + row::LENGTH * j);
         j += 1;
     }
     clear
@@ -60,25 +58,29 @@ fn are_clear_rows(s: &[u8]) -> bool
 
 // Whether every byte that nothing uses is zero, and the curve's kind is in its list.
 fn is_clear_file(s: &[u8]) -> bool
-    requires { ⌜ length (now s) ≡ 1536 ⌝ }
+    requires { ⌜ length (now s) ≡ fileLength ⌝ }
     ensures { λ r. ⌜ r ≡ clearFile (now (s .entry)) ⌝ }
 {
     let heading = (bytes::byte(s, 4) <= 2)
         & is_clear(s, 6, 2)
         & is_clear(s, 12, 4)
-        & is_clear(s, 24, 484);
-    heading & are_clear_rows(s) & is_clear(s, row::END, 12) & is_clear(s, column::END, 12)
+        & is_clear(s, heading::END, heading::LEFT);
+    heading
+        & are_clear_rows(s)
+        & is_clear(s, row::END, row::LEFT)
+        & is_clear(s, column::END, column::LEFT)
 }
 
-// The lowest block whose check is wrong.
+// The lowest block whose check is wrong. A block's number is a byte.
 fn wrong_check(s: &[u8]) -> Answer
-    requires { ⌜ length (now s) ≡ 1536 ⌝ }
-    ensures { λ a. ⌜ handed a ≡ judge (rule 2 checks ∷ []) (now (s .entry)) ⌝ }
+    requires { ⌜ length (now s) / blockLength < 256 ⌝ }
+    ensures { λ a. ⌜ handed a ≡ judge (rule 2 checkRule ∷ []) (now (s .entry)) ⌝ }
 {
-    let mut k: usize = 0;
-    while k < 3 {
+    let blocks = s.len() / BLOCK_LENGTH;
+    let mut k: u8 = 0;
+    while (k as usize) < blocks {
         if block::is_wrong(s, k) {
-            return Answer::Check(k as u8);
+            return Answer::Check(k);
         }
         k += 1;
     }
@@ -89,7 +91,7 @@ fn wrong_check(s: &[u8]) -> Answer
 pub(crate) fn judged(s: &[u8]) -> Answer
     ensures { λ a. ⌜ handed a ≡ judge fileRules (now (s .entry)) ⌝ }
 {
-    if s.len() != FILE {
+    if s.len() != FILE_LENGTH {
         return Answer::Length;
     }
     let wrong = wrong_check(s);

@@ -21,12 +21,12 @@ use Rattle.laws.proofs.Reflectance.{Reflects, reflects-as, reflects-rou
 
 module _ (g W : ℕ) (w : zero < W) where
   -- a parallel adaptor, up
-  abbrev pub joined : Fraction → Fraction → Fraction
-  joined p1 p2 = p2 +F times (pos g) W w (p1 -F p2)
+  abbrev pub exactU : Fraction → Fraction → Fraction
+  exactU p1 p2 = p2 +F times (pos g) W w (p1 -F p2)
 
   -- a series adaptor, to its first child
-  abbrev pub parted : Fraction → Fraction → Fraction → Fraction
-  parted p1 p2 p3 = p1 -F times (pos g) W w (p1 +F p2 +F p3)
+  abbrev pub exactB1 : Fraction → Fraction → Fraction → Fraction
+  exactB1 p1 p2 p3 = p1 -F times (pos g) W w (p1 +F p2 +F p3)
 
 difference-undo : (p q : Fraction) → p -F q +F q ≈ p
 difference-undo p q = record { same = by (parts (p ∷ q ∷ []) []) (fracE 0 ⊝F fracE 1 ⊕F fracE 1) (fracE 0) refl }
@@ -58,23 +58,23 @@ G = var 0
 abbrev K : Exp
 K = var 1
 
-abbrev joinedE : Quot → Quot → Quot
-joinedE p1 p2 = p2 ⊕F timesE G K (p1 ⊝F p2)
+abbrev uE : Quot → Quot → Quot
+uE p1 p2 = p2 ⊕F timesE G K (p1 ⊝F p2)
 
-abbrev partedE : Quot → Quot → Quot → Quot
-partedE p1 p2 p3 = p1 ⊝F timesE G K (p1 ⊕F p2 ⊕F p3)
+abbrev b1E : Quot → Quot → Quot → Quot
+b1E p1 p2 p3 = p1 ⊝F timesE G K (p1 ⊕F p2 ⊕F p3)
 
 module _ (g W : ℕ) (w : zero < W) (a1 a2 : ℤ) {k : ℤ} where
-  pub joined-rounds : Rounds k (pos g *ℤ (a1 -ℤ a2)) W → Near 1 (a2 +ℤ k) (joined g W w (whole a1) (whole a2))
-  joined-rounds h =
+  pub u-rounds : Rounds k (pos g *ℤ (a1 -ℤ a2)) W → Near 1 (a2 +ℤ k) (exactU g W w (whole a1) (whole a2))
+  u-rounds h =
       let A1 = wholeE (var 2) in let A2 = wholeE (var 3) in
-      near-as (record { same = by (pos g ∷ pos W ∷ a1 ∷ a2 ∷ []) (A2 ⊕F overE (G ⊗ (var 2 ⊝ var 3)) K) (joinedE A1 A2) refl })
+      near-as (record { same = by (pos g ∷ pos W ∷ a1 ∷ a2 ∷ []) (A2 ⊕F overE (G ⊗ (var 2 ⊝ var 3)) K) (uE A1 A2) refl })
       (near-add (near-whole a2) (near-rounds w h))
 
-  pub parted-rounds : (a3 : ℤ) → Rounds k (pos g *ℤ (a1 +ℤ a2 +ℤ a3)) W → Near 1 (a1 -ℤ k) (parted g W w (whole a1) (whole a2) (whole a3))
-  parted-rounds a3 h =
+  pub b1-rounds : (a3 : ℤ) → Rounds k (pos g *ℤ (a1 +ℤ a2 +ℤ a3)) W → Near 1 (a1 -ℤ k) (exactB1 g W w (whole a1) (whole a2) (whole a3))
+  b1-rounds a3 h =
       let A1 = wholeE (var 2) in let A2 = wholeE (var 3) in let A3 = wholeE (var 4) in
-      near-as (record { same = by (pos g ∷ pos W ∷ a1 ∷ a2 ∷ a3 ∷ []) (A1 ⊝F overE (G ⊗ (var 2 ⊕ var 3 ⊕ var 4)) K) (partedE A1 A2 A3) refl })
+      near-as (record { same = by (pos g ∷ pos W ∷ a1 ∷ a2 ∷ a3 ∷ []) (A1 ⊝F overE (G ⊗ (var 2 ⊕ var 3 ⊕ var 4)) K) (b1E A1 A2 A3) refl })
       (near-sub (near-whole a1) (near-rounds w h))
 
 -- ---- up and down, by the weights g and W − g
@@ -97,9 +97,9 @@ module _ (g W : ℕ) (w : zero < W) (l : g ≤ W) where
   module _ {a1 a2 : ℤ} {E1 E2 : ℕ} {p1 p2 : Fraction} (h1 : Near E1 a1 p1) (h2 : Near E2 a2 p2) where
     -- ---- a parallel adaptor that sends up u
 
-    module _ {u : ℤ} (r : Near 1 u (joined g W w (whole a1) (whole a2))) where
+    module _ {u : ℤ} (r : Near 1 u (exactU g W w (whole a1) (whole a2))) where
       abbrev sentUp : Fraction
-      sentUp = error u (joined g W w p1 p2)
+      sentUp = error u (exactU g W w p1 p2)
 
       -- beside a share of one child's error there is in u's a share of the other's, and the rounding
       beside-first : Small (E2 + 1) (sentUp -F times (pos g) W w (error a1 p1))
@@ -107,7 +107,7 @@ module _ (g W : ℕ) (w : zero < W) (l : g ≤ W) where
           let A1 = wholeE (var 6) in let A2 = wholeE (var 7) in let U = wholeE (var 8) in
           small-as (record {
             same = by (parts (over (pos g) W w ∷ p1 ∷ p2 ∷ []) (a1 ∷ a2 ∷ u ∷ []))
-                (timesE (K ⊝ G) K (A2 ⊝F fracE 2) ⊕F (U ⊝F joinedE A1 A2)) (U ⊝F joinedE (fracE 1) (fracE 2) ⊝F timesE G K (A1 ⊝F fracE 1)) refl;
+                (timesE (K ⊝ G) K (A2 ⊝F fracE 2) ⊕F (U ⊝F uE A1 A2)) (U ⊝F uE (fracE 1) (fracE 2) ⊝F timesE G K (A1 ⊝F fracE 1)) refl;
           })
           (small-add (shared second (omega arith) h2) (near-apart r))
 
@@ -116,37 +116,37 @@ module _ (g W : ℕ) (w : zero < W) (l : g ≤ W) where
           let A1 = wholeE (var 6) in let A2 = wholeE (var 7) in let U = wholeE (var 8) in
           small-as (record {
             same = by (parts (over (pos g) W w ∷ p1 ∷ p2 ∷ []) (a1 ∷ a2 ∷ u ∷ []))
-                (timesE G K (A1 ⊝F fracE 1) ⊕F (U ⊝F joinedE A1 A2)) (U ⊝F joinedE (fracE 1) (fracE 2) ⊝F timesE (K ⊝ G) K (A2 ⊝F fracE 2)) refl;
+                (timesE G K (A1 ⊝F fracE 1) ⊕F (U ⊝F uE A1 A2)) (U ⊝F uE (fracE 1) (fracE 2) ⊝F timesE (K ⊝ G) K (A2 ⊝F fracE 2)) refl;
           })
           (small-add (shared first l h1) (near-apart r))
 
-      pub joined-near : Near (E1 + E2 + 1) u (joined g W w p1 p2)
-      joined-near =
+      pub u-near : Near (E1 + E2 + 1) u (exactU g W w p1 p2)
+      u-near =
           let t = times (pos g) W w (error a1 p1) in
           error-near (small-le (omega arith) (small-as (difference-undo sentUp t) (small-add beside-first (shared first l h1))))
 
       -- it gets back a3, and sends each child u + a3 less what the child sent
-      module _ {D : ℕ} {a3 : ℤ} {p3 : Fraction} (back : Echo D u (joined g W w p1 p2) a3 p3) where
-        pub parallel-first : Echo (2 * E2 + 2 + D) a1 p1 (u +ℤ a3 -ℤ a1) (joined g W w p1 p2 +F p3 -F p1)
+      module _ {D : ℕ} {a3 : ℤ} {p3 : Fraction} (back : Echo D u (exactU g W w p1 p2) a3 p3) where
+        pub parallel-first : Echo (2 * E2 + 2 + D) a1 p1 (u +ℤ a3 -ℤ a1) (exactU g W w p1 p2 +F p3 -F p1)
         parallel-first =
             record {
-              echo = reflects-as (≈-refl (error a1 p1)) (less-errors u a3 a1 (joined g W w p1 p2) p3 p1) (omega arith)
+              echo = reflects-as (≈-refl (error a1 p1)) (less-errors u a3 a1 (exactU g W w p1 p2) p3 p1) (omega arith)
                   (parallel-child W w (pos g) first second (omega arith) (error a1 p1) sentUp (error a3 p3) beside-first (back .echo));
             }
 
-        pub parallel-second : Echo (2 * E1 + 2 + D) a2 p2 (u +ℤ a3 -ℤ a2) (joined g W w p1 p2 +F p3 -F p2)
+        pub parallel-second : Echo (2 * E1 + 2 + D) a2 p2 (u +ℤ a3 -ℤ a2) (exactU g W w p1 p2 +F p3 -F p2)
         parallel-second =
             record {
-              echo = reflects-as (≈-refl (error a2 p2)) (less-errors u a3 a2 (joined g W w p1 p2) p3 p2) (omega arith)
+              echo = reflects-as (≈-refl (error a2 p2)) (less-errors u a3 a2 (exactU g W w p1 p2) p3 p2) (omega arith)
                   (parallel-child W w (pos W -ℤ pos g) second first-left (omega arith) (error a2 p2) sentUp (error a3 p3) beside-second (back .echo));
             }
 
     -- ---- a series adaptor that sends up minus the sum, gets back a3, and sends b to its first child, minus the sum of a3 and b to its second
 
     module _ {D : ℕ} {a3 : ℤ} {p3 : Fraction} (back : Echo D (negℤ (a1 +ℤ a2)) (negF (p1 +F p2)) a3 p3) {b : ℤ}
-        (r : Near 1 b (parted g W w (whole a1) (whole a2) (whole a3))) where
+        (r : Near 1 b (exactB1 g W w (whole a1) (whole a2) (whole a3))) where
       abbrev rounding : Fraction
-      rounding = error b (parted g W w (whole a1) (whole a2) (whole a3))
+      rounding = error b (exactB1 g W w (whole a1) (whole a2) (whole a3))
 
       back-first : Reflects D (negF (error a1 p1 +F error a2 p2)) (error a3 p3)
       back-first = reflects-as (minus-errors a1 a2 p1 p2) (≈-refl (error a3 p3)) (omega arith) (back .echo)
@@ -155,15 +155,15 @@ module _ (g W : ℕ) (w : zero < W) (l : g ≤ W) where
       back-second =
           reflects-as (≈-neg (sum-comm (error a1 p1) (error a2 p2))) (≈-refl (error a3 p3)) (omega arith) back-first
 
-      pub series-first : Echo (2 * E2 + 2 + D) a1 p1 b (parted g W w p1 p2 p3)
+      pub series-first : Echo (2 * E2 + 2 + D) a1 p1 b (exactB1 g W w p1 p2 p3)
       series-first =
           let A1 = wholeE (var 8) in let A2 = wholeE (var 9) in let A3 = wholeE (var 10) in let B = wholeE (var 11) in
           record {
             echo = reflects-as (≈-refl (error a1 p1))
                 (record {
                   same = by (parts (over (pos g) W w ∷ p1 ∷ p2 ∷ p3 ∷ []) (a1 ∷ a2 ∷ a3 ∷ b ∷ []))
-                      (timesE (K ⊝ G) K (A1 ⊝F fracE 1) ⊝F timesE G K (A2 ⊝F fracE 2 ⊕F (A3 ⊝F fracE 3)) ⊕F (B ⊝F partedE A1 A2 A3))
-                      (B ⊝F partedE (fracE 1) (fracE 2) (fracE 3)) refl;
+                      (timesE (K ⊝ G) K (A1 ⊝F fracE 1) ⊝F timesE G K (A2 ⊝F fracE 2 ⊕F (A3 ⊝F fracE 3)) ⊕F (B ⊝F b1E A1 A2 A3))
+                      (B ⊝F b1E (fracE 1) (fracE 2) (fracE 3)) refl;
                 })
                 (omega arith)
                 (reflects-rounded (error a1 p1) (times (pos W -ℤ pos g) W w (error a1 p1) -F times (pos g) W w (error a2 p2 +F error a3 p3))
@@ -171,7 +171,7 @@ module _ (g W : ℕ) (w : zero < W) (l : g ≤ W) where
                 (series-child W w (pos g) first second (omega arith) (error a1 p1) (error a2 p2) (error a3 p3) (near-apart h2) back-first));
           }
 
-      pub series-second : Echo (2 * E1 + 2 + D) a2 p2 (negℤ (a3 +ℤ b)) (negF (p3 +F parted g W w p1 p2 p3))
+      pub series-second : Echo (2 * E1 + 2 + D) a2 p2 (negℤ (a3 +ℤ b)) (negF (p3 +F exactB1 g W w p1 p2 p3))
       series-second =
           let A1 = wholeE (var 8) in let A2 = wholeE (var 9) in let A3 = wholeE (var 10) in let B = wholeE (var 11) in
           let β = pos W -ℤ pos g in
@@ -179,8 +179,8 @@ module _ (g W : ℕ) (w : zero < W) (l : g ≤ W) where
             echo = reflects-as (≈-refl (error a2 p2))
                 (record {
                   same = by (parts (over (pos g) W w ∷ p1 ∷ p2 ∷ p3 ∷ []) (a1 ∷ a2 ∷ a3 ∷ b ∷ []))
-                      (timesE (K ⊝ (K ⊝ G)) K (A2 ⊝F fracE 2) ⊝F timesE (K ⊝ G) K (A1 ⊝F fracE 1 ⊕F (A3 ⊝F fracE 3)) ⊝F (B ⊝F partedE A1 A2 A3))
-                      (wholeE (⊖ (var 10 ⊕ var 11)) ⊝F ⊖F (fracE 3 ⊕F partedE (fracE 1) (fracE 2) (fracE 3))) refl;
+                      (timesE (K ⊝ (K ⊝ G)) K (A2 ⊝F fracE 2) ⊝F timesE (K ⊝ G) K (A1 ⊝F fracE 1 ⊕F (A3 ⊝F fracE 3)) ⊝F (B ⊝F b1E A1 A2 A3))
+                      (wholeE (⊖ (var 10 ⊕ var 11)) ⊝F ⊖F (fracE 3 ⊕F b1E (fracE 1) (fracE 2) (fracE 3))) refl;
                 })
                 (omega arith)
                 (reflects-rounded (error a2 p2) (times (pos W -ℤ β) W w (error a2 p2) -F times β W w (error a1 p1 +F error a3 p3))

@@ -1,22 +1,23 @@
 -- The column rule's two forms agree: neighbours that lie no further apart in y than in x say the same of every two columns, where x rises.
--- From one column on, y differs from its y by no more than x does, by steps; two columns meet in the earlier one.
-use Prim.Native.Nat.{_+_, _≤_}
+-- From one column on, y differs from its y by no more than x does, by steps.
+use Prim.Native.Nat.{ℕ, zero, suc, _+_, _<_, _≤_}
+use native.Mathlib.Nat.{le-of-suc-le-suc, not-suc-le-zero, eq-or-lt-of-le}
+use native.Mathlib.Decide.{decLt}
 use native.Mathlib.Omega.{arith}
-use mathlib.Core.Path.{_≡_, refl, sym, subst}
-use mathlib.Core.Logic.{_↔_, inl, inr}
-use mathlib.Core.List.{List, [], _∷_}
+use mathlib.Core.Path.{_≡_, subst}
+use mathlib.Core.Logic.{_↔_, ⊎-elim}
 use lib.IntN.{ℤ, _-ℤ_, natAbs}
 use lib.Signed.{_≤ℤ_, ≤ℤ-refl}
 use Rattle.whole.specs.Integers.{at, _⊟_}
 use Rattle.whole.specs.Order.{zarith, abs-parts}
 use Rattle.circuit.specs.Numbers.{passes}
-use Rattle.circuit.specs.Record.{form}
+use Rattle.circuit.specs.Record.{columnAt, formRule}
 use Rattle.circuit.specs.Curve.{columnRule}
 use Rattle.circuit.specs.declared.Column.{Column}
 use Rattle.circuit.specs.declared.Record.{Record}
-use Rattle.laws.specs.Accepted.{Sized, Beside, Chain, Has, Drawn}
-use Rattle.laws.specs.ColumnRule.{Rising, Spread, Acceptable}
-use Rattle.laws.proofs.Shape.{Formed, formed}
+use Rattle.laws.specs.Accepted.{Beside, Drawn}
+use Rattle.laws.specs.ColumnRule.{Acceptable}
+use Rattle.laws.proofs.Formed.{formed}
 use Rattle.laws.proofs.Columns.{columns-drawn, drawn-passes}
 
 -- ---- two columns
@@ -31,94 +32,57 @@ by-way a b c = omega (arith, at c ⊟ at a, at c ⊟ at b, at b ⊟ at a, abs-pa
 in-order : (a b c : ℤ) → a ≤ℤ b → b ≤ℤ c → natAbs (c -ℤ b) + natAbs (b -ℤ a) ≤ natAbs (c -ℤ a)
 in-order a b c h k = omega (zarith, at c ⊟ at a, at c ⊟ at b, at b ⊟ at a, abs-parts (c -ℤ a), abs-parts (c -ℤ b), abs-parts (b -ℤ a))
 
--- ---- from neighbours to every two
+-- n lies right of o or where it does, and no further from it in y than in x
+pub record Ahead (o n : Column) : Type 0 where
+  pub right : o .x ≤ℤ n .x
+  pub gentle : natAbs (n .y -ℤ o .y) ≤ natAbs (n .x -ℤ o .x)
 
--- a column of the list lies right of the first, and no further from it in y than in x
-record Ahead (o n : Column) : Type 0 where
-  right : o .x ≤ℤ n .x
-  gentle : natAbs (n .y -ℤ o .y) ≤ natAbs (n .x -ℤ o .x)
+ahead-self : (o : Column) → Ahead o o
+ahead-self o = record { right = ≤ℤ-refl (o .x); gentle = omega (arith, at (o .y) ⊟ at (o .y), abs-parts (o .y -ℤ o .y)) }
 
-ahead-self : (o n : Column) → n ≡ o → Ahead o n
-ahead-self o n e = subst (Ahead o) (sym e) (record { right = ≤ℤ-refl (o .x); gentle = omega (arith, at (o .y) ⊟ at (o .y), abs-parts (o .y -ℤ o .y)) })
-
-ahead-on : (o m n : Column) → Beside o m → Ahead m n → Ahead o n
-ahead-on o m n b h =
+ahead-on : (o m n : Column) → Ahead o m → Beside m n → Ahead o n
+ahead-on o m n h b =
     let rise = b .rises in
     let on = h .right in
     let step = b .gentle in
     let more = h .gentle in
     let y = by-way (o .y) (m .y) (n .y) in
-    let x = in-order (o .x) (m .x) (n .x) (omega zarith) on in
+    let x = in-order (o .x) (m .x) (n .x) on (omega zarith) in
     record { right = omega zarith; gentle = omega arith }
 
-ahead : (n o : Column) (cs : List Column) → Chain o cs → Has n o cs → Ahead o n
-unfolding Chain Has
-ahead n o [] c h = ahead-self o n h
-ahead n o (m ∷ cs) c (inl e) = ahead-self o n e
-ahead n o (m ∷ cs) c (inr h) = ahead-on o m n (c .0) (ahead n m cs (c .1) h)
+module _ (r : Record) where
+  -- column i + k from column i
+  pub ahead : ((i : ℕ) → suc i < r .width → Beside (columnAt r i) (columnAt r (suc i)))
+      → (j i : ℕ) → i ≤ j → j < r .width → Ahead (columnAt r i) (columnAt r j)
+  ahead b j i l h = ⊎-elim (λ e. subst (λ k. Ahead (columnAt r i) (columnAt r k)) e (ahead-self (columnAt r i))) (λ m. on j m h) (eq-or-lt-of-le l)
+    where
+      on : (j : ℕ) → i < j → j < r .width → Ahead (columnAt r i) (columnAt r j)
+      on zero m h = absurd (not-suc-le-zero m)
+      on (suc j) m h =
+          ahead-on (columnAt r i) (columnAt r j) (columnAt r (suc j))
+          (⊎-elim (λ e. subst (λ k. Ahead (columnAt r i) (columnAt r k)) e (ahead-self (columnAt r i))) (λ n. on j n (omega arith)) (eq-or-lt-of-le (le-of-suc-le-suc m)))
+          (b j h)
 
-chain-rises : (o : Column) (cs : List Column) → Chain o cs → Rising o cs
-unfolding Chain Rising
-chain-rises o [] c = tt
-chain-rises o (n ∷ cs) c = (c .0 .rises, chain-rises n cs (c .1))
+  drawn-acceptable : Drawn r → Acceptable r
+  drawn-acceptable d =
+      record { two = d .two; rises = λ i l. d .beside i l .rises; apart = λ i j l h. by i j l h (decLt i j); crosses = d .crosses; small = d .small }
+    where
+      by : (i j : ℕ) → i < r .width → j < r .width → Dec (i < j)
+          → natAbs (columnAt r j .y -ℤ columnAt r i .y) ≤ natAbs (columnAt r j .x -ℤ columnAt r i .x)
+      by i j l h (yes m) = ahead (d .beside) j i (omega arith) h .gentle
+      by i j l h (no m) =
+          let back = ahead (d .beside) i j (omega arith) l .gentle in
+          let x = swapped (columnAt r j .x) (columnAt r i .x) in
+          let y = swapped (columnAt r j .y) (columnAt r i .y) in
+          omega arith
 
-from-first : (m n o : Column) → m ≡ o → Ahead o n → natAbs (n .y -ℤ m .y) ≤ natAbs (n .x -ℤ m .x)
-from-first m n o e h = subst (λ c. natAbs (n .y -ℤ c .y) ≤ natAbs (n .x -ℤ c .x)) (sym e) (h .gentle)
+  acceptable-drawn : Acceptable r → Drawn r
+  acceptable-drawn a = record {
+    two = a .two;
+    beside = λ i l. record { rises = a .rises i l; gentle = a .apart i (suc i) (omega arith) l };
+    crosses = a .crosses;
+    small = a .small;
+  }
 
-chain-apart : (o : Column) (cs : List Column) → Chain o cs → (m n : Column) → Has m o cs → Has n o cs → natAbs (n .y -ℤ m .y) ≤ natAbs (n .x -ℤ m .x)
-unfolding Chain Has
-chain-apart o [] c m n h i = from-first m n o h (ahead n o [] c i)
-chain-apart o (k ∷ cs) c m n (inl e) i = from-first m n o e (ahead n o (k ∷ cs) c i)
-chain-apart o (k ∷ cs) c m n (inr h) (inl e) =
-    let back = from-first n m o e (ahead m o (k ∷ cs) c (inr h)) in
-    let x = swapped (n .x) (m .x) in
-    let y = swapped (n .y) (m .y) in
-    omega arith
-chain-apart o (k ∷ cs) c m n (inr h) (inr i) = chain-apart k cs (c .1) m n h i
-
--- ---- and back
-
-has-first : (o : Column) (cs : List Column) → Has o o cs
-unfolding Has
-has-first o [] = refl
-has-first o (n ∷ cs) = inl refl
-
-spread-chain : (o : Column) (cs : List Column) → Rising o cs
-    → ((m n : Column) → Has m o cs → Has n o cs → natAbs (n .y -ℤ m .y) ≤ natAbs (n .x -ℤ m .x)) → Chain o cs
-unfolding Rising Chain Has
-spread-chain o [] r a = tt
-spread-chain o (n ∷ cs) r a = (
-  record { rises = r .0; gentle = a o n (inl refl) (inr (has-first n cs)) },
-  spread-chain n cs (r .1) (λ m k h i. a m k (inr h) (inr i)),
-)
-
-pub columns-apart : (o : Column) (cs : List Column) → Chain o cs ↔ Spread o cs
-columns-apart o cs = (λ c. record { rises = chain-rises o cs c; apart = chain-apart o cs c }, λ s. spread-chain o cs (s .rises) (s .apart))
-
--- ---- the rule of a record
-
-pub curve-accepted : (r : Record) → Sized r → form r ≡ passes → (columnRule r ≡ passes) ↔ Acceptable r
-curve-accepted r s e = (λ h. spread (columns-drawn r s f h), λ a. drawn-passes r s f (drawn a))
-  where
-    f : Formed r
-    f = formed r e
-
-    spread : Drawn r → Acceptable r
-    spread d = record {
-      first = d .first;
-      rest = d .rest;
-      columns = d .columns;
-      spread = columns-apart (d .first) (d .rest) .0 (d .chain);
-      crosses = d .crosses;
-      small = d .small;
-    }
-
-    drawn : Acceptable r → Drawn r
-    drawn a = record {
-      first = a .first;
-      rest = a .rest;
-      columns = a .columns;
-      chain = columns-apart (a .first) (a .rest) .1 (a .spread);
-      crosses = a .crosses;
-      small = a .small;
-    }
+  pub curve-accepted : formRule r ≡ passes → (columnRule r ≡ passes) ↔ Acceptable r
+  curve-accepted e = (λ h. drawn-acceptable (columns-drawn r (formed r e) h), λ a. drawn-passes r (acceptable-drawn a))

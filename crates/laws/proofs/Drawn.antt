@@ -1,83 +1,37 @@
 -- What a drawn curve gives, single and pair alike: its line passes through every column and so through (0, 0), moves no further than its
 -- input and never exceeds it in magnitude. So does the diode's answer, the line rounded toward zero, and it is within one of the line.
-use Prim.Native.Nat.{ℕ, zero, suc, _*_, _<_, _≤_}
+-- The line over the first n columns is glued to the next piece at column n.
+use Prim.Native.Nat.{ℕ, zero, suc, _*_, _<_, _≤_, max}
 use native.Mathlib.Omega.{arith}
-use native.Mathlib.Nat.{le-of-mul-le-mul-right}
-use mathlib.Core.Path.{_≡_, refl, sym, ap, _∙_}
-use mathlib.Core.Logic.{_⊎_, inl, inr}
-use mathlib.Core.List.{List, [], _∷_}
-use lib.ListN.{getD}
-use lib.Seq.{getD-take}
+use native.Mathlib.Nat.{le-of-suc-le-suc, le-of-mul-le-mul-right, not-suc-le-zero, eq-or-lt-of-le}
+use mathlib.Core.Path.{_≡_, refl, sym, ap, _∙_, subst}
+use mathlib.Core.Logic.{⊎-elim}
+use mathlib.Core.Bool.{Bool, true, false, cond}
+use mathlib.Core.List.{[], _∷_}
 use lib.IntN.{ℤ, pos, _-ℤ_, natAbs}
-use lib.Signed.{_≤ℤ_, quotZ, ≤ℤ-refl}
-use Rattle.whole.specs.Order.{zarith}
+use lib.Dec.{ltb}
+use borrow.Author.Tests.{ltb-true, lt-ltb}
+use lib.Signed.{_≤ℤ_, _<ℤ_, quotZ, ≤ℤ-refl}
+use Rattle.whole.specs.Order.{zarith, Abs}
+use Rattle.whole.specs.Ring.{var, _⊝_}
+use Rattle.whole.specs.Combine.{multiple}
+use Rattle.whole.specs.Mirror.{wholeE, _⊕F_, _⊝F_, timesE, by-facts}
 use Rattle.whole.specs.Quotients.{trunc-low, trunc-rounds}
-use Rattle.whole.specs.Fraction.{Fraction, whole, _-F_, _≈_}
+use Rattle.whole.specs.Fraction.{Fraction, whole, _-F_, below, _≈_}
 use Rattle.whole.specs.Fractions.{≈-refl}
 use Rattle.whole.specs.Nearness.{NoFurther, no-further-as, Near, near-rounds}
+use Rattle.circuit.specs.Counting.{total}
 use Rattle.circuit.specs.Record.{columnAt}
-use Rattle.circuit.specs.Curve.{waveLimit, onward, lineThrough, line, towardZero, reflected}
+use Rattle.circuit.specs.Curve.{waveLimit, through, slopeAt, oneUp, oneDown, passed, piece, drawn, lineOf, line, towardZero, reflected}
 use Rattle.circuit.specs.declared.Column.{Column}
 use Rattle.circuit.specs.declared.CurveKind.{CurveKind}
 use Rattle.circuit.specs.declared.CurveKind.the-variants.{Unset, Single, Pair}
 use Rattle.circuit.specs.declared.Record.{Record}
-use Rattle.laws.specs.Accepted.{Chain, origin, Has, Crosses, Drawn}
-use Rattle.laws.proofs.Line.{onward-next, single-right, paired-right}
+use Rattle.laws.specs.Accepted.{Beside, Crosses, Drawn}
+use Rattle.laws.proofs.ColumnRule.{ahead}
+use Rattle.laws.proofs.Line.{run-is, below-whole, not-below-whole, passedOf, passed-stop, passed-all}
 use Rattle.laws.proofs.Truncated.{toward-zero-moves}
-use Rattle.laws.proofs.Gentle.{Gentle, gentle-moves, never-exceeds, onward-at, onward-gentle, single-gentle, paired-gentle}
-
--- ---- the line passes through its columns
-
--- every column stands right of the first, or is the first
-pub right-of : (n o : Column) (cs : List Column) → Chain o cs → Has n o cs → o .x ≤ℤ n .x
-unfolding Chain Has
-right-of n o [] c e = rw e (≤ℤ-refl (o .x))
-right-of n o (m ∷ cs) c (inl e) = rw e (≤ℤ-refl (o .x))
-right-of n o (m ∷ cs) c (inr k) = let l = right-of n m cs (c .1) k in let r = c .0 .rises in omega zarith
-
-pub through : (n o : Column) (cs : List Column) → Chain o cs → Has n o cs → onward o cs (whole (n .x)) ≈ whole (n .y)
-unfolding Chain Has
-through n o [] c e = rw e (onward-at o [] c)
-through n o (m ∷ cs) c (inl e) = rw e (onward-at o (m ∷ cs) c)
-through n o (m ∷ cs) c (inr k) = rw (onward-next o (n .x) m cs (right-of n m cs (c .1) k)) (through n m cs (c .1) k)
-
--- both kinds have (0, 0)
-pub crosses-has : (k : CurveKind) (o : Column) (cs : List Column) → Crosses k o cs → Has origin o cs
-unfolding Crosses Has
-crosses-has Unset o cs h = absurd h
-crosses-has Single o cs h = h
-crosses-has Pair o [] h = sym h
-crosses-has Pair o (m ∷ cs) h = inl (sym h)
-
--- no column's y exceeds its x
-pub column-below : (n o : Column) (cs : List Column) → Chain o cs → Has origin o cs → Has n o cs → natAbs (n .y) ≤ natAbs (n .x)
-column-below n o cs c h k =
-    let p = whole (n .x) in
-    let e = no-further-as (through n o cs c k) (≈-refl p) (never-exceeds (onward-gentle o cs c) (through origin o cs c h) p) in
-    omega (arith, e)
-
--- what a list of columns has at a place is one of them, past its end (0, 0)
-has-at : (o : Column) (cs : List Column) (i : ℕ) → (getD (o ∷ cs) i origin ≡ origin) ⊎ Has (getD (o ∷ cs) i origin) o cs
-unfolding Has
-has-at o [] zero = inr refl
-has-at o [] (suc i) = inl refl
-has-at o (m ∷ cs) zero = inr (inl refl)
-has-at o (m ∷ cs) (suc i) = elim (has-at m cs i) [ inl e ↦ inl e | inr k ↦ inr (inr k) ]
-
--- ---- the line of a kind
-
-module _ (o : Column) (cs : List Column) (c : Chain o cs) where
-  through-zero : (k : CurveKind) → Crosses k o cs → lineThrough k (o ∷ cs) (whole (pos 0)) ≈ whole (pos 0)
-  unfolding lineThrough Crosses
-  through-zero Unset h = absurd h
-  through-zero Single h = rw (single-right o (pos 0) cs (right-of origin o cs c h)) (through origin o cs c h)
-  through-zero Pair h = rw (paired-right o (pos 0) cs (≤ℤ-refl (pos 0))) (through origin o cs c (crosses-has Pair o cs h))
-
-  kind-gentle : (k : CurveKind) → Crosses k o cs → Gentle (lineThrough k (o ∷ cs))
-  unfolding lineThrough Crosses
-  kind-gentle Unset h = absurd h
-  kind-gentle Single h = single-gentle o cs c
-  kind-gentle Pair h = paired-gentle o cs c (through origin o cs c (crosses-has Pair o cs h))
+use Rattle.laws.proofs.Gentle.{Gentle, gentle-as, gentle-moves, never-exceeds, glue, through-gentle, through-at, paired-gentle}
 
 -- rounded toward zero, a number that is no further than a whole one is no larger
 toward-zero-below : (q : Fraction) (a : ℤ) → NoFurther q (whole a) → natAbs (towardZero q) ≤ natAbs a
@@ -87,21 +41,136 @@ toward-zero-below q a h =
     let k : natAbs (quotZ (q .num) (pos d)) * d ≤ natAbs a * d = omega (arith, h, trunc-low (q .num) d) in
     le-of-mul-le-mul-right k (q .den-pos)
 
--- ---- a record's curve
-
 -- the answer is within one of the line, whatever the line
 pub answer-near : (r : Record) (a : ℤ) → Near 1 (reflected r a) (line r (whole a))
 unfolding reflected towardZero
 answer-near r a = let q = line r (whole a) in near-rounds (q .den-pos) (trunc-rounds (q .num) (q .den) (q .den-pos))
 
+-- a line through a column with the slope to the next passes through the next
+meets-next : (o n : Column) → Beside o n → through o (record { rise = n .y -ℤ o .y; run = natAbs (n .x -ℤ o .x) }) (whole (n .x)) ≈ whole (n .y)
+meets-next o n b =
+    let X = var 0 in let Y = var 1 in let U = var 2 in let Z = var 3 in let K = var 4 in
+    record {
+      same = by-facts (o .x ∷ o .y ∷ n .x ∷ n .y ∷ pos (max 1 (natAbs (n .x -ℤ o .x))) ∷ []) (multiple (Y ⊝ Z) K (U ⊝ X) ∷ [])
+          (wholeE Y ⊕F timesE (Z ⊝ Y) K (wholeE U ⊝F wholeE X)) (wholeE Z) (run-is o n (b .rises), tt) refl;
+    }
+
 module _ {r : Record} (d : Drawn r) where
+  abbrev column : ℕ → Column
+  column = columnAt r
+
+  -- ---- the pieces
+
+  slope-gentle : (k : ℕ) → suc k < r .width → Abs (slopeAt r k .rise) (max 1 (slopeAt r k .run))
+  slope-gentle k l = record { bound = omega (arith, d .beside k l .gentle) }
+
+  piece-gentle : (n : ℕ) → Gentle (piece r n)
+  unfolding piece
+  piece-gentle zero = through-gentle (column 0) oneUp (record { bound = omega arith })
+  piece-gentle (suc n) = by (ltb (suc n) (r .width)) refl
+    where
+      by : (b : Bool) → ltb (suc n) (r .width) ≡ b → Gentle (through (column n) (cond b (slopeAt r n) oneDown))
+      by true e = through-gentle (column n) (slopeAt r n) (slope-gentle n (ltb-true (suc n) (r .width) e))
+      by false e = through-gentle (column n) oneDown (record { bound = omega arith })
+
+  -- piece n ends at column n, where the next begins
+  ends : (n : ℕ) → n < r .width → piece r n (whole (column n .x)) ≈ whole (column n .y)
+  unfolding piece
+  ends zero l = through-at (column 0) oneUp
+  ends (suc n) l = rw (lt-ltb (suc n) (r .width) l) (meets-next (column n) (column (suc n)) (d .beside n l))
+
+  begins : (n : ℕ) → piece r (suc n) (whole (column n .x)) ≈ whole (column n .y)
+  unfolding piece
+  begins n = through-at (column n) (cond (ltb (suc n) (r .width)) (slopeAt r n) oneDown)
+
+  -- ---- the line over the first n columns
+
+  abbrev upTo : ℕ → Fraction → Fraction
+  upTo n p = piece r (passedOf r n p) p
+
+  before : (n : ℕ) → n < r .width → (p : Fraction) → below p (column n .x) ≡ false → passedOf r n p ≡ n
+  before n l p e = passed-all r p n (λ i h. d .beside i (omega arith)) e
+
+  next : (n : ℕ) → n < r .width → (p : Fraction) (b : Bool) → below p (column n .x) ≡ b → upTo (suc n) p ≡ cond b (upTo n p) (piece r (suc n) p)
+  unfolding total
+  next n l p true e = ap (λ k. piece r k p) (rw e (omega arith))
+  next n l p false e = ap (λ k. piece r k p) (rw e (omega (arith, before n l p e)))
+
+  up-to-gentle : (n : ℕ) → n ≤ r .width → Gentle (upTo n)
+  unfolding total
+  up-to-gentle zero l = piece-gentle 0
+  up-to-gentle (suc n) l =
+      gentle-as (λ p. sym (next n l p (below p (column n .x)) refl))
+      (glue (column n .x) (up-to-gentle n (omega arith)) (piece-gentle (suc n))
+      (rw (before n l (whole (column n .x)) (not-below-whole (≤ℤ-refl (column n .x)))) (ends n l)) (begins n))
+
+  -- it passes through its columns
+  up-to-at : (n i : ℕ) → n ≤ r .width → i < n → upTo n (whole (column i .x)) ≈ whole (column i .y)
+  up-to-at zero i l h = absurd (not-suc-le-zero h)
+  up-to-at (suc n) i l h = ⊎-elim
+      (λ e. subst (λ k. upTo (suc n) (whole (column k .x)) ≈ whole (column k .y)) (sym e)
+      (rw (next n l (whole (column n .x)) false (not-below-whole (≤ℤ-refl (column n .x)))) (begins n)))
+      (λ m. let right = ahead r (d .beside) n (suc i) m l .right in
+      let rise = d .beside i (omega arith) .rises in
+      let less : column i .x <ℤ column n .x = omega zarith in
+      rw (next n l (whole (column i .x)) true (below-whole less)) (up-to-at n i (omega arith) m))
+      (eq-or-lt-of-le (le-of-suc-le-suc h))
+
+  -- What a search finds is the number: column n − 1 is passed, and column n is not.
+  all-before : (a : ℤ) (n : ℕ) → n ≤ r .width → ((k : ℕ) → n ≡ suc k → column k .x ≤ℤ a) → passedOf r n (whole a) ≡ n
+  unfolding total
+  all-before a zero l left = refl
+  all-before a (suc k) l left =
+      let e = not-below-whole (left k refl) in
+      rw e (omega (arith, before k l (whole a) e))
+
+  pub passed-is : (a : ℤ) (n : ℕ) → n ≤ r .width → ((k : ℕ) → n ≡ suc k → column k .x ≤ℤ a) → (n < r .width → a <ℤ column n .x) → passed r (whole a) ≡ n
+  unfolding passed
+  passed-is a n l left right =
+      passed-stop r (whole a) n (r .width) l
+      (λ i h k. let here = right (omega arith) in
+      let on = ahead r (d .beside) i n h k .right in
+      let less : a <ℤ column i .x = omega zarith in
+      below-whole less)
+      ∙ all-before a n l left
+
+  -- ---- the line
+
+  drawn-gentle : Gentle (drawn r)
+  unfolding drawn passed
+  drawn-gentle = up-to-gentle (r .width) (omega arith)
+
+  drawn-at : (i : ℕ) → i < r .width → drawn r (whole (column i .x)) ≈ whole (column i .y)
+  unfolding drawn passed
+  drawn-at i l = up-to-at (r .width) i (omega arith) l
+
+  crossed : (k : CurveKind) → Crosses k r → drawn r (whole (pos 0)) ≈ whole (pos 0)
+  unfolding Crosses
+  crossed Unset c = absurd c
+  crossed Single c = rw (c .2) at (drawn-at (c .0) (c .1))
+  crossed Pair c = let two = d .two in rw c at (drawn-at 0 (omega arith))
+
+  drawn-zero : drawn r (whole (pos 0)) ≈ whole (pos 0)
+  drawn-zero = crossed (r .kind) (d .crosses)
+
+  kind-gentle : (k : CurveKind) → Crosses k r → Gentle (lineOf k (drawn r))
+  unfolding Crosses
+  kind-gentle Unset c = absurd c
+  kind-gentle Single c = drawn-gentle
+  kind-gentle Pair c = paired-gentle drawn-gentle drawn-zero
+
+  kind-zero : (k : CurveKind) → lineOf k (drawn r) (whole (pos 0)) ≈ whole (pos 0)
+  kind-zero Unset = ≈-refl (whole (pos 0))
+  kind-zero Single = drawn-zero
+  kind-zero Pair = drawn-zero
+
   pub line-gentle : Gentle (line r)
   unfolding line
-  line-gentle = rw (d .columns) (kind-gentle (d .first) (d .rest) (d .chain) (r .kind) (d .crosses))
+  line-gentle = kind-gentle (r .kind) (d .crosses)
 
   pub line-at-zero : line r (whole (pos 0)) ≈ whole (pos 0)
   unfolding line
-  line-at-zero = rw (d .columns) (through-zero (d .first) (d .rest) (d .chain) (r .kind) (d .crosses))
+  line-at-zero = kind-zero (r .kind)
 
   pub line-moves : (p q : Fraction) → NoFurther (line r p -F line r q) (p -F q)
   line-moves p q = gentle-moves line-gentle p q
@@ -118,12 +187,11 @@ module _ {r : Record} (d : Drawn r) where
   answer-moves a b = toward-zero-moves (line r (whole a)) (line r (whole b)) a b (line-moves (whole a) (whole b))
 
   -- |y| ≤ |x| ≤ 2^26
-  pub column-y : (i : ℕ) → i < r .width → natAbs (columnAt r i .y) ≤ natAbs (columnAt r i .x)
-  column-y i h =
-      let o = d .first in
-      let cs = d .rest in
-      let e : columnAt r i ≡ getD (o ∷ cs) i origin = sym (getD-take (r .width) (r .columns) i origin h) ∙ ap (λ (l : List Column). getD l i origin) (d .columns) in
-      elim (has-at o cs i) [ inl z ↦ rw (e ∙ z) (omega arith) | inr k ↦ rw e (column-below (getD (o ∷ cs) i origin) o cs (d .chain) (crosses-has (r .kind) o cs (d .crosses)) k) ]
+  pub column-y : (i : ℕ) → i < r .width → natAbs (column i .y) ≤ natAbs (column i .x)
+  column-y i l =
+      let p = whole (column i .x) in
+      let e = no-further-as (drawn-at i l) (≈-refl p) (never-exceeds drawn-gentle drawn-zero p) in
+      omega (arith, e)
 
-  pub column-y-small : (i : ℕ) → i < r .width → natAbs (columnAt r i .y) ≤ waveLimit
+  pub column-y-small : (i : ℕ) → i < r .width → natAbs (column i .y) ≤ waveLimit
   column-y-small i h = omega (arith, column-y i h, d .small i h)

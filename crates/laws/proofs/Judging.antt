@@ -6,9 +6,9 @@ use lib.Dec.{lit<}
 use mathlib.Core.Path.{_≡_, refl, sym, ap, _∙_, subst}
 use mathlib.Core.List.{List, [], _∷_, _++_}
 use Rattle.circuit.specs.Numbers.{Report, Verdict, passes, fails, Rule, report, done, judge, of}
-use Rattle.circuit.specs.Record.{form, rate, childrenLower, usedOnce, inputAndTap, values}
+use Rattle.circuit.specs.Record.{formRule, rateRule, childrenRule, usedOnceRule, inputAndTapRule, valueRule, recordRules}
 use Rattle.circuit.specs.Curve.{columnRule}
-use Rattle.circuit.specs.SetUp.{portResistances, ratios, curveResistance, setUpRules, setUpReport}
+use Rattle.circuit.specs.SetUp.{portResistanceRule, ratioRule, curveResistanceRule, portRules, setUpRules, setUpReport}
 use Rattle.circuit.specs.declared.Record.{Record}
 
 -- every rule passes
@@ -58,6 +58,16 @@ module _ {A : Type 0} where
       by passes e later = judge-pass r (rs ++ ss) a e ∙ later (rw (judge-pass r rs a e) at h) ∙ sym (judge-pass r rs a e)
       by (fails p) e later = judge-fail r (rs ++ ss) a p e ∙ sym (judge-fail r rs a p e)
 
+  -- rules that pass change nothing where they stand last
+  pub judge-before : (rs ss : List (Rule A)) (a : A) → Pass ss a → judge (rs ++ ss) a ≡ judge rs a
+  unfolding judge
+  judge-before [] ss a h = pass-done ss a h
+  judge-before (r ∷ rs) ss a h = by (r .check a) refl (judge-before rs ss a h)
+    where
+      by : (v : Verdict) → r .check a ≡ v → judge (rs ++ ss) a ≡ judge rs a → judge (r ∷ rs ++ ss) a ≡ judge (r ∷ rs) a
+      by passes e same = judge-pass r (rs ++ ss) a e ∙ same ∙ sym (judge-pass r rs a e)
+      by (fails p) e same = judge-fail r (rs ++ ss) a p e ∙ sym (judge-fail r rs a p e)
+
   -- ---- number 0
 
   pub zero-pass : (rs : List (Rule A)) (a : A) → Numbered rs → judge rs a .number ≡ 0 → Pass rs a
@@ -88,23 +98,23 @@ module _ {A B : Type 0} (f : B → A) where
 -- ---- set-up's rules
 
 pub record Passed (r : Record) : Type 0 where
-  pub form : form r ≡ passes
-  pub rate : rate r ≡ passes
-  pub childrenLower : childrenLower r ≡ passes
-  pub usedOnce : usedOnce r ≡ passes
-  pub inputAndTap : inputAndTap r ≡ passes
-  pub values : values r ≡ passes
-  pub portResistances : portResistances r ≡ passes
-  pub ratios : ratios r ≡ passes
+  pub form : formRule r ≡ passes
+  pub rate : rateRule r ≡ passes
+  pub childrenLower : childrenRule r ≡ passes
+  pub usedOnce : usedOnceRule r ≡ passes
+  pub inputAndTap : inputAndTapRule r ≡ passes
+  pub values : valueRule r ≡ passes
+  pub portResistances : portResistanceRule r ≡ passes
+  pub ratios : ratioRule r ≡ passes
   pub columnRule : columnRule r ≡ passes
-  pub curveResistance : curveResistance r ≡ passes
+  pub curveResistance : curveResistanceRule r ≡ passes
 
 pub set-up-numbered : Numbered setUpRules
-unfolding setUpRules
+unfolding setUpRules recordRules portRules
 set-up-numbered = (lit< tt, (lit< tt, (lit< tt, (lit< tt, (lit< tt, (lit< tt, (lit< tt, (lit< tt, (lit< tt, (lit< tt, tt))))))))))
 
 pub pass-passed : (r : Record) → Pass setUpRules r → Passed r
-unfolding setUpRules
+unfolding setUpRules recordRules portRules
 pass-passed r h = record {
   form = h .0;
   rate = h .1 .0;
@@ -119,7 +129,7 @@ pass-passed r h = record {
 }
 
 pub passed-pass : (r : Record) → Passed r → Pass setUpRules r
-unfolding setUpRules
+unfolding setUpRules recordRules portRules
 passed-pass r h = (h .form, (h .rate, (h .childrenLower, (h .usedOnce, (h .inputAndTap, (h .values, (h .portResistances, (h .ratios, (h .columnRule, (h .curveResistance, tt))))))))))
 
 pub zero-passed : (r : Record) → setUpReport r .number ≡ 0 → Passed r

@@ -3,11 +3,11 @@ mod row;
 mod text;
 
 ghost use Prim.Native.Nat.{_≤_};
-ghost use mathlib.Core.List.{_++_};
 ghost use mathlib.Core.Path.{_≡_};
-ghost use lib.ListN.{length, drop};
+ghost use lib.ListN.{length};
 ghost use Rattle.circuit.specs.SetUp.{setUpReport, setUpRows};
-ghost use Rattle.circuit.specs.Listing.{acceptedLines, listing};
+ghost use Rattle.circuit.specs.Listing.{listingRoom, acceptedLines};
+ghost use Rattle.circuit.specs.Promises.{Lists};
 ghost use Rattle.listing.specs.Writing.{Puts};
 use circuit::Prepared;
 use circuit::ROWS;
@@ -15,23 +15,24 @@ use circuit::Record;
 use row::put_rows;
 use text::put_numbers;
 
-// Room for any listing: it has at most 27 bytes, and 28 for each of 31 rows.
-pub type Page = [u8; 1024];
+// Room for any listing. A number has at most 8 digits and a name at most 9 letters, so a first line, `rows N tap N`, has at most 27 bytes
+// and a row's line, `N NAME N`, at most 28, each with its newline. A refusal's one line has at most 29.
+pub const ROOM: usize = 27 + 28 * ROWS;
+
+pub type Page = [u8; ROOM];
 
 // The lines of a record that set-up accepts, with the rows that it prepared.
 fn put_accepted(out: &mut [u8], r: Record, prepared: [Prepared; ROWS]) -> usize
-    requires { ⌜ (setUpReport r .number ≡ 0) × (prepared ≡ setUpRows r) × (1024 ≤ length (now out)) ⌝ }
-    ensures { λ next. ⌜ Puts (acceptedLines r) 0 (now (out .entry)) next (now (out .exit)) ⌝ }
+    requires { ⌜ (setUpReport r .number ≡ 0) × (prepared ≡ setUpRows r) × (listingRoom ≤ length (now out)) ⌝ }
+    ensures { λ next. ⌜ Puts listingRoom (acceptedLines r) 0 (now (out .entry)) next (now (out .exit)) ⌝ }
 {
-    let rows = r.rows;
     let at = put_numbers(out, b"rows ", r.count as u64, b" tap ", r.tap as u64);
-    put_rows(out, at, r.count as usize, rows, prepared)
+    put_rows(out, at, r, prepared)
 }
 
 // The listing of a file's bytes, at the start of `out`, and its length. The bytes after it stay as they were.
 pub fn list(s: &[u8], out: &mut Page) -> usize
-    ensures length { λ n. ⌜ n ≡ length (listing (now (s .entry))) ⌝ }
-    ensures text { λ _. ⌜ now (out .exit) ≡ listing (now (s .entry)) ++ drop (length (listing (now (s .entry)))) (now (out .entry)) ⌝ }
+    ensures { λ n. ⌜ Lists (now (s .entry)) (now (out .entry)) n (now (out .exit)) ⌝ }
 {
     let reading = file::read(s);
     let answer = reading.answer;

@@ -1,16 +1,17 @@
 // Rule 10, the columns of the curve.
 
 ghost use mathlib.Core.Path.{_≡_};
-ghost use Prim.Native.Nat.{_<_, _≤_};
+ghost use Prim.Native.Nat.{_<_, _≤_, _^_};
 ghost use mathlib.Core.Bool.{_&&_};
 ghost use lib.Dec.{eqb, leb};
 ghost use lib.IntN.{pos, _-ℤ_, natAbs};
 ghost use lib.Signed.{ltZ};
-ghost use Rattle.circuit.specs.Counting.{within, some};
+ghost use Rattle.circuit.specs.Counting.{some};
 ghost use Rattle.circuit.specs.Numbers.{handed, unless};
 ghost use Rattle.circuit.specs.Record.{columnAt, columnLimit, atOrigin};
-ghost use Rattle.circuit.specs.Curve.{waveLimit, beside, starts, soundColumn, passesOrigin, columnRule};
-ghost use Rattle.setup.specs.Answers.{numbered, Counted};
+ghost use Rattle.circuit.specs.Curve.{beside, starts, soundColumn, passesOrigin, columnRule};
+ghost use Rattle.laws.proofs.Formed.{Formed};
+ghost use Rattle.setup.specs.Answers.{numbered};
 use crate::first;
 use crate::search::Fault;
 use crate::search::lowest_fault;
@@ -18,9 +19,7 @@ use circuit::Answer;
 use circuit::Column;
 use circuit::CurveKind;
 use circuit::Record;
-
-// microvolts
-const WAVE_LIMIT: i32 = 67108864;
+use circuit::in_wave_limit;
 
 fn is_zero(x: i32) -> bool
     ensures { λ b. ⌜ b ≡ eqb (natAbs x) 0 ⌝ }
@@ -34,22 +33,16 @@ pub(crate) fn at_origin(c: Column) -> bool
     is_zero(c.x) & is_zero(c.y)
 }
 
-fn in_limit(c: Column) -> bool
-    ensures { λ b. ⌜ b ≡ within waveLimit (c .x) ⌝ }
-{
-    (-WAVE_LIMIT <= c.x) & (c.x <= WAVE_LIMIT)
-}
-
 // How far b lies above a: in 64 bits, where the difference of any two coordinates fits.
 fn apart(a: i32, b: i32) -> i64
     ensures value { λ d. ⌜ d ≡ b -ℤ a ⌝ }
-    ensures small { λ d. ⌜ natAbs d ≤ 4294967295 ⌝ }
+    ensures small { λ d. ⌜ natAbs d < 2 ^ 32 ⌝ }
 {
     (b as i64) - (a as i64)
 }
 
 fn is_gentle(run: i64, rise: i64) -> bool
-    requires { ⌜ natAbs run ≤ 4294967295 ⌝ }
+    requires { ⌜ natAbs run < 2 ^ 32 ⌝ }
     ensures { λ b. ⌜ b ≡ (ltZ (pos 0) run && leb (natAbs rise) (natAbs run)) ⌝ }
 {
     (0 < run) & (-run <= rise) & (rise <= run)
@@ -80,10 +73,10 @@ pub(crate) fn sound_column(r: Record, i: usize) -> bool
     let here = r.columns[i];
     if i == 0 {
         let kind = r.kind;
-        in_limit(here) & may_start(kind, here)
+        in_wave_limit(here.x) & may_start(kind, here)
     } else {
         let before = r.columns[i - 1];
-        in_limit(here) & stands_beside(before, here)
+        in_wave_limit(here.x) & stands_beside(before, here)
     }
 }
 
@@ -125,7 +118,7 @@ fn origin_rule(r: Record) -> Answer
 }
 
 pub(crate) fn column_rule(r: Record) -> Answer
-    requires { ⌜ Counted r ⌝ }
+    requires { ⌜ Formed r ⌝ }
     ensures { λ a. ⌜ handed a ≡ numbered 10 (columnRule r) ⌝ }
 {
     first(lowest_fault(Fault::Column, r), origin_rule(r))

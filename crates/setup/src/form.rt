@@ -5,20 +5,17 @@ ghost use mathlib.Core.Bool.{_||_, Bool·beq};
 ghost use lib.Dec.{leb, ltb};
 ghost use Rattle.circuit.specs.Counting.{every};
 ghost use Rattle.circuit.specs.Numbers.{handed};
-ghost use Rattle.circuit.specs.Record.{rowLimit, columnLimit, isBlank, isSet, atOrigin, partAt, columnAt, form as formRule, rate as rateRule};
+ghost use Rattle.circuit.specs.Record.{rowLimit, columnLimit, isBlank, isSet, atOrigin, partAt, columnAt, formRule, rateRule};
 ghost use Rattle.setup.specs.Answers.{numbered};
 use crate::columns::at_origin;
 use circuit::Answer;
 use circuit::COLUMNS;
 use circuit::CurveKind;
+use circuit::HIGHEST_RATE;
+use circuit::LOWEST_RATE;
 use circuit::Part;
 use circuit::ROWS;
 use circuit::Record;
-
-// whole hertz
-const LOWEST_RATE: u32 = 8000;
-
-const HIGHEST_RATE: u32 = 768000;
 
 fn is_blank(p: Part) -> bool
     ensures { λ b. ⌜ b ≡ isBlank p ⌝ }

@@ -4,10 +4,12 @@ ghost use mathlib.Core.Path.{_≡_};
 ghost use Rattle.circuit.specs.Numbers.{handed, judge};
 ghost use Rattle.circuit.specs.Record.{rowLimit};
 ghost use lib.ListN.{replicate};
-ghost use Rattle.circuit.specs.SetUp.{nothing, setUpReport, setUpRows};
+ghost use Rattle.circuit.specs.SetUp.{nothing, portRules};
 ghost use Rattle.circuit.specs.Run.{freshWaves};
-ghost use Rattle.setup.specs.Answers.{firstOf, treeRules, portRules, Counted};
-ghost use Rattle.setup.specs.Rows.{Ready};
+ghost use Rattle.circuit.specs.Promises.{SetsUp};
+ghost use Rattle.laws.proofs.Formed.{Formed};
+ghost use Rattle.setup.specs.Answers.{firstOf, treeRules};
+ghost use Rattle.setup.specs.Rows.{Filled};
 
 mod columns;
 mod form;
@@ -35,12 +37,12 @@ fn first(a: Answer, b: Answer) -> Answer
 
 // 5 to 7.
 fn tree_answer(r: Record) -> Answer
-    requires { ⌜ Counted r ⌝ }
+    requires { ⌜ Formed r ⌝ }
     ensures { λ a. ⌜ handed a ≡ judge treeRules r ⌝ }
 {
     let rate = form::rate(r);
-    let lower = lowest_fault(Fault::Lower, r);
-    let once = lowest_fault(Fault::Once, r);
+    let lower = lowest_fault(Fault::Children, r);
+    let once = lowest_fault(Fault::Uses, r);
     let tapped = tree::input_and_tap(r);
     let valued = lowest_fault(Fault::Value, r);
     first(rate, first(lower, first(once, first(tapped, valued))))
@@ -48,10 +50,10 @@ fn tree_answer(r: Record) -> Answer
 
 // 8 to 11.
 fn port_answer(r: Record, rows: [Prepared; ROWS]) -> Answer
-    requires { ⌜ Ready r rows ⌝ }
+    requires { ⌜ Filled r rows ⌝ }
     ensures { λ a. ⌜ handed a ≡ judge portRules r ⌝ }
 {
-    let ranged = port::lowest_port(PortFault::Range, r, rows);
+    let ranged = port::lowest_port(PortFault::Resistance, r, rows);
     let rated = port::lowest_port(PortFault::Ratio, r, rows);
     let drawn = columns::column_rule(r);
     let fitted = port::curve_resistance(r, rows);
@@ -68,8 +70,7 @@ fn refused(a: Answer) -> SetUp
 // The rules in order, over any record at all: the lowest number that applies, with its place, or done. Where every rule passes the rows are
 // prepared, and else they are zeros.
 pub fn set_up(r: Record) -> SetUp
-    ensures number { λ s. ⌜ handed (s .answer) ≡ setUpReport r ⌝ }
-    ensures rows { λ s. ⌜ s .rows ≡ setUpRows r ⌝ }
+    ensures { λ s. ⌜ SetsUp r s ⌝ }
 {
     let form = form::form(r);
     if answer::number(form) != 0 {
@@ -84,10 +85,7 @@ pub fn set_up(r: Record) -> SetUp
     if answer::number(port) != 0 {
         return refused(port);
     }
-    SetUp {
-        answer: Answer::Done,
-        rows,
-    }
+    SetUp { answer: port, rows }
 }
 
 // Every stored wave is 0.

@@ -4,22 +4,20 @@ ghost use mathlib.Core.Path.{_≡_};
 ghost use Prim.Native.Nat.{ℕ};
 ghost use Rattle.circuit.specs.Numbers.{handed, report};
 ghost use Rattle.circuit.specs.Record.{rowLimit, partAt};
-ghost use Rattle.circuit.specs.SetUp.{nothing, inRange, leafResistance, joinedResistance, quotient, scaledDown, fits, curveResistance};
+ghost use Rattle.circuit.specs.SetUp.{nothing, inRange, leafResistance, joinedResistance, quotient, parts, scaledDown, ratioFault, fits, curveResistanceRule};
 ghost use Rattle.laws.specs.Accepted.{Lower};
 ghost use Rattle.setup.specs.Answers.{numbered};
-ghost use Rattle.setup.specs.Ratio.{held};
-ghost use Rattle.setup.specs.Faults.{faulty, faultOf, portNumber, portRule};
-ghost use Rattle.setup.specs.Rows.{joinedRow, preparedFrom, heldRows, Ready};
+ghost use Rattle.setup.specs.Ratio.{proper};
+ghost use Rattle.setup.specs.Faults.{faultOf, portNumber, portRule};
+ghost use Rattle.setup.specs.Rows.{joinedRow, preparedFrom, properRows, Filled};
 use circuit::Answer;
 use circuit::Element;
 use circuit::Join;
+use circuit::PARTS;
 use circuit::Part;
 use circuit::Prepared;
 use circuit::ROWS;
 use circuit::Record;
-
-// 1 / 2^24 is one part of a ratio
-const PARTS: u32 = 16777216;
 
 fn leaf_resistance(rate: u32, e: Element) -> f64
     ensures { λ r. ⌜ r ≡ leafResistance rate e ⌝ }
@@ -51,16 +49,22 @@ fn quotient_of(join: Join, r1: f64, r2: f64) -> f64
     }
 }
 
-// The quotient in parts of 2^24, rounded down. The product is exact: only its fraction is cut off.
-fn ratio_of(q: f64) -> u32
-    ensures { λ g. ⌜ g ≡ held (scaledDown q) ⌝ }
+// A value without its fraction; 0 where it is not from 0 up to below 2^24.
+fn whole_part(x: f64) -> u32
+    ensures { λ n. ⌜ n ≡ proper parts (scaledDown 1 x) ⌝ }
 {
-    if q > 0.0 {
-        if q < 1.0 {
-            return std::num::truncating_f64_to_u64(q * (PARTS as f64)) as u32;
-        }
+    if (0.0 < x) & (x < (PARTS as f64)) {
+        std::num::truncating_f64_to_u64(x) as u32
+    } else {
+        0
     }
-    0
+}
+
+// The quotient in parts of 2^24, rounded down. Below one the product is exact: only its fraction is cut off.
+fn ratio_of(q: f64) -> u32
+    ensures { λ g. ⌜ g ≡ proper parts (scaledDown parts q) ⌝ }
+{
+    whole_part(q * (PARTS as f64))
 }
 
 // From 1/1024 to 2^30 ohms.
@@ -121,7 +125,7 @@ fn prepared_row(rate: u32, rows: [Prepared; ROWS], p: Part) -> Prepared
 // Every row, from the lowest up: an adaptor's children are lower than it.
 pub(crate) fn prepared_rows(r: Record) -> [Prepared; ROWS]
     requires { ⌜ ((j : ℕ) → Lower j (partAt r j)) ⌝ }
-    ensures { λ rows. ⌜ rows ≡ heldRows r ⌝ }
+    ensures { λ rows. ⌜ rows ≡ properRows r ⌝ }
 {
     let mut rows = [blank(); ROWS];
     for j in 0..ROWS {
@@ -132,14 +136,14 @@ pub(crate) fn prepared_rows(r: Record) -> [Prepared; ROWS]
     rows
 }
 
-// A resistance out of range; a ratio that is not from 1 to 2^24 - 1 parts, which only an adaptor can have.
+// A resistance out of range; a ratio of no part or of all, which only an adaptor can have.
 pub(crate) enum PortFault {
-    Range,
+    Resistance,
     Ratio,
 }
 
 fn ratio_fault(p: Part, ratio: u32) -> bool
-    ensures { λ b. ⌜ b ≡ faulty p ratio ⌝ }
+    ensures { λ b. ⌜ b ≡ ratioFault p ratio ⌝ }
 {
     match p {
         Part::Blank => false,
@@ -152,7 +156,7 @@ fn row_fault(f: PortFault, p: Part, row: Prepared) -> bool
     ensures { λ b. ⌜ b ≡ faultOf f p row ⌝ }
 {
     match f {
-        PortFault::Range => !in_range(row.resistance),
+        PortFault::Resistance => !in_range(row.resistance),
         PortFault::Ratio => ratio_fault(p, row.ratio),
     }
 }
@@ -161,14 +165,14 @@ fn answer_at(f: PortFault, j: u8) -> Answer
     ensures { λ a. ⌜ handed a ≡ report (portNumber f) j ⌝ }
 {
     match f {
-        PortFault::Range => Answer::Resistance(j),
+        PortFault::Resistance => Answer::Resistance(j),
         PortFault::Ratio => Answer::Ratio(j),
     }
 }
 
 // The lowest row at fault.
 pub(crate) fn lowest_port(f: PortFault, r: Record, rows: [Prepared; ROWS]) -> Answer
-    requires { ⌜ Ready r rows ⌝ }
+    requires { ⌜ Filled r rows ⌝ }
     ensures { λ a. ⌜ handed a ≡ numbered (portNumber f) (portRule f r) ⌝ }
 {
     let count = r.count;
@@ -184,8 +188,8 @@ pub(crate) fn lowest_port(f: PortFault, r: Record, rows: [Prepared; ROWS]) -> An
 }
 
 pub(crate) fn curve_resistance(r: Record, rows: [Prepared; ROWS]) -> Answer
-    requires { ⌜ Ready r rows ⌝ }
-    ensures { λ a. ⌜ handed a ≡ numbered 11 (curveResistance r) ⌝ }
+    requires { ⌜ Filled r rows ⌝ }
+    ensures { λ a. ⌜ handed a ≡ numbered 11 (curveResistanceRule r) ⌝ }
 {
     let last = r.count - 1;
     let top = rows[last as usize];

@@ -5,10 +5,10 @@ ghost use mathlib.Core.Path.{_≡_};
 ghost use Prim.Native.Nat.{_≤_};
 ghost use Rattle.circuit.specs.Counting.{one};
 ghost use Rattle.circuit.specs.Numbers.{handed};
-ghost use Rattle.circuit.specs.Record.{rowLimit, partAt, isLeaf, isInput, notLower, names as namesOf, uses as usesOf, inputs as inputsOf, inputAndTap};
+ghost use Rattle.circuit.specs.Record.{rowLimit, partAt, notLower, names as namesOf, uses as usesOf, inputs as inputsOf, inputAndTapRule};
 ghost use Rattle.setup.specs.Answers.{numbered};
 use circuit::Answer;
-use circuit::Element;
+use circuit::NO_ROW;
 use circuit::Part;
 use circuit::ROWS;
 use circuit::Record;
@@ -68,28 +68,6 @@ pub(crate) fn uses(r: Record, k: u8) -> usize
     n
 }
 
-fn is_input(p: Part) -> bool
-    ensures { λ b. ⌜ b ≡ isInput p ⌝ }
-{
-    match p {
-        Part::Blank => false,
-        Part::Leaf(e) => is_source(e),
-        Part::Adaptor(_) => false,
-    }
-}
-
-fn is_source(e: Element) -> bool
-    ensures { λ b. ⌜ b ≡ isInput (Part.Leaf e) ⌝ }
-{
-    match e {
-        Element::Resistor(_) => false,
-        Element::Capacitor(_) => false,
-        Element::Inductor(_) => false,
-        Element::Input(_) => true,
-        Element::Steady(_, _) => false,
-    }
-}
-
 fn inputs(r: Record) -> usize
     requires { ⌜ r .count ≤ rowLimit ⌝ }
     ensures { λ n. ⌜ n ≡ inputsOf r ⌝ }
@@ -99,29 +77,19 @@ fn inputs(r: Record) -> usize
     for j in 0..count {
         let row = r.rows[j];
         let part = row.part;
-        n = n + one_if(is_input(part));
+        n = n + one_if(part.is_input());
     }
     n
 }
 
-fn is_leaf(p: Part) -> bool
-    ensures { λ b. ⌜ b ≡ isLeaf p ⌝ }
-{
-    match p {
-        Part::Blank => false,
-        Part::Leaf(_) => true,
-        Part::Adaptor(_) => false,
-    }
-}
-
 pub(crate) fn input_and_tap(r: Record) -> Answer
     requires { ⌜ r .count ≤ rowLimit ⌝ }
-    ensures { λ a. ⌜ handed a ≡ numbered 6 (inputAndTap r) ⌝ }
+    ensures { λ a. ⌜ handed a ≡ numbered 6 (inputAndTapRule r) ⌝ }
 {
     let tap = r.tap;
-    if (inputs(r) == 1) & ((tap == TOP) | is_leaf(part_at(r, tap as usize))) {
+    if (inputs(r) == 1) & ((tap == TOP) | part_at(r, tap as usize).is_leaf()) {
         Answer::Done
     } else {
-        Answer::Tree(TOP)
+        Answer::Tree(NO_ROW)
     }
 }

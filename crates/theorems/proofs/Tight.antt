@@ -1,106 +1,159 @@
--- 2N + 1 is the least whole bound, for every N that a circuit can have. The input and N steady sources stand in a chain of parallel
--- adaptors, each of which takes all but one part of 2^24 from the chain below it. Each rounds its wave down by nearly one, and so does the
--- diode, whose curve is one microvolt short of straight at its end. Every one of these errors goes the same way, up and back.
-use Prim.Native.Nat.{ℕ, zero, suc, _+_, _*_, _≤_}
+-- 2N + 1 is the least whole bound, for the output at every N that a circuit can have, and for a stored wave at every one above 0; at 0
+-- nothing is stored. The input stands in a chain of N parallel adaptors with N − 1 resistors and, at the top, a capacitor. Each adaptor
+-- takes all but one part of 2^24 from the chain below it, and rounds its wave down by nearly one; so does the diode, whose curve is one
+-- microvolt short of straight at its end. Every one of these errors goes the same way, up and back, and every leaf gets them all.
+use Prim.Native.Nat.{ℕ, zero, suc, _+_, _-_, _*_, _≤_}
 use native.Mathlib.Omega.{arith}
-use mathlib.Core.Path.{_≡_, refl}
-use mathlib.Core.Bool.{Bool, true, _&&_, and-eq-true-iff}
+use mathlib.Core.Path.{_≡_, refl, sym, ap, _∙_}
+use mathlib.Core.Bool.{Bool, true, false, _&&_, _||_, and-eq-true-iff}
 use mathlib.Core.List.{List, [], _∷_}
-use borrow.Author.Tests.{eqb-true, ltb-true}
+use borrow.Author.Tests.{eqb-true, ltb-true, ne-eqb}
 use lib.Dec.{eqb, ltb}
-use lib.ListN.{getD, length}
-use lib.IntN.{ℤ, pos, _-ℤ_, _*ℤ_, natAbs}
-use Rattle.whole.specs.Fraction.{Fraction, whole}
-use Rattle.whole.specs.Nearness.{Near}
-use Rattle.circuit.specs.Counting.{every, table, within}
-use Rattle.circuit.specs.Numbers.{done}
-use Rattle.circuit.specs.Record.{rowLimit, sourceLimit}
-use Rattle.circuit.specs.SetUp.{setUpReport}
-use Rattle.circuit.specs.Sample.{rounded, unrounded, output, kept, inLimit, storedAt, finished, sampled}
+use lib.ListN.{length}
+use lib.IntN.{ℤ, pos, negsuc, _-ℤ_, _*ℤ_, natAbs}
+use lib.Ieee.{fin}
+use Rattle.whole.specs.Fraction.{Fraction}
+use Rattle.whole.specs.Nearness.{near-le}
+use Rattle.circuit.specs.Counting.{within, every, total, one, table}
+use Rattle.circuit.specs.Record.{rowLimit, columnLimit, sourceLimit, top, partAt, isInput, inputs, adaptorsOf}
+use Rattle.circuit.specs.SetUp.{parts, setUpReport}
+use Rattle.circuit.specs.Curve.{waveLimit, reflected}
+use Rattle.circuit.specs.Sample.{Arithmetic, stores, partStores, arriving, kept, output, rounded, inLimit, storedAt, sampled}
 use Rattle.circuit.specs.Run.{freshWaves}
 use Rattle.circuit.specs.declared.Join.the-variants.{Parallel}
 use Rattle.circuit.specs.declared.CurveKind.the-variants.{Pair}
+use Rattle.circuit.specs.declared.Element.the-variants.{Resistor, Capacitor, Inductor, Input, Steady}
 use Rattle.circuit.specs.declared.Part.{Part}
+use Rattle.circuit.specs.declared.Part.the-variants.{Blank, Leaf, Adaptor}
 use Rattle.circuit.specs.declared.Record.{Record}
 use Rattle.circuit.proofs.Working.{working}
-use Rattle.circuit.proofs.Circuits.{ohms, input, steady, joins, column, circuit}
-use Rattle.laws.specs.Accepted.{Sized}
-use Rattle.laws.proofs.Counting.{every-true}
+use Rattle.circuit.proofs.Circuits.{ohms, input, resistor, capacitor, joins, column, circuit}
+use Rattle.laws.specs.Accepted.{Accepted}
+use Rattle.laws.proofs.Counting.{every-on, every-true, getD-table}
 use Rattle.laws.proofs.Judging.{set-up-done}
-use Rattle.theorems.specs.Limit.{adaptorsOf}
+use Rattle.theorems.specs.Limit.{leastLimit, exactOutput, exactKept}
+use Rattle.theorems.specs.Tight.{adaptorLimit, Beyond, Strays}
 
--- an accepted circuit of n adaptors, and a sample from a fresh state whose output is further than 2n from the unrounded one
-pub record Strays (n : ℕ) : Type 0 where
-  pub circuit : Record
-  pub sized : Sized circuit
-  pub accepted : setUpReport circuit ≡ done
-  pub adaptors : adaptorsOf circuit ≡ n
-  pub sample : ℤ
-  pub out : ℤ
-  pub next : List ℤ
-  pub works : sampled circuit freshWaves sample ≡ finished out next
-  pub beyond : Near (2 * n) out (output (unrounded circuit) circuit (λ j. whole (getD freshWaves j (pos 0))) sample) → ⊥
+-- no accepted circuit has more adaptors
+pub few-adaptors : {r : Record} → Accepted r → adaptorsOf r ≤ adaptorLimit
+few-adaptors a = let odd = a .odd in let short = a .short in omega arith
 
--- ---- the chain: n more links on the row `top`
+-- ---- with no adaptor the only row is the input, and nothing is stored
 
+module _ (𝓐 : Arithmetic) where
+  input-stores : (p : Part) (a : 𝓐 .Wave) → one (isInput p) ≡ 1 → partStores 𝓐 p a ≡ 𝓐 .microvolts (pos 0)
+  unfolding stores
+  input-stores Blank a e = refl
+  input-stores (Leaf (Resistor r)) a e = refl
+  input-stores (Leaf (Capacitor c)) a e = absurd (omega arith)
+  input-stores (Leaf (Inductor l)) a e = absurd (omega arith)
+  input-stores (Leaf (Input r)) a e = refl
+  input-stores (Leaf (Steady r v)) a e = refl
+  input-stores (Adaptor d) a e = refl
+
+  pub nothing-stored : {r : Record} → Accepted r → adaptorsOf r ≡ 0 → (answer : 𝓐 .Wave → 𝓐 .Wave) (stored : ℕ → 𝓐 .Wave) (x : ℤ) (j : ℕ)
+      → kept 𝓐 answer r stored x j ≡ 𝓐 .microvolts (pos 0)
+  unfolding kept inputs total
+  nothing-stored {r} a none answer stored x zero =
+      let one-row : r .count ≡ 1 = omega (arith, a .odd) in
+      let only : total (λ j. one (isInput (partAt r j))) 1 ≡ 1 = ap (total (λ j. one (isInput (partAt r j)))) (sym one-row) ∙ a .oneInput in
+      input-stores (partAt r 0) (arriving 𝓐 answer r stored x 0) (omega arith)
+  nothing-stored {r} a none answer stored x (suc j) = rw (a .blank (suc j) (omega (arith, a .odd))) refl
+
+-- ---- the chain
+
+-- the leaf beside the chain at the adaptor that has n more above it; 2^-41 F is some 22.9 MΩ
+unfoldable sibling : ℕ → Part
+sibling zero = capacitor (fin false 1 (negsuc 40))
+sibling (suc n) = resistor (ohms parts)
+
+-- n adaptors over row j
 unfoldable links : ℕ → ℕ → List Part
-links zero top = []
-links (suc n) top = steady (ohms 16777216) (pos (suc n)) ∷ joins Parallel top (top + 1) ∷ links n (top + 2)
+links zero j = []
+links (suc n) j = sibling n ∷ joins Parallel j (j + 1) ∷ links n (j + 2)
 
 unfoldable chain : ℕ → Record
 chain n =
-    circuit (input (ohms 1) ∷ links n 0) 0 Pair (column (pos 0) (pos 0) ∷ column (pos 67108864) (pos 67108863) ∷ []) (ohms 1)
+    circuit (input (ohms 1) ∷ links n 0) top Pair (column (pos 0) (pos 0) ∷ column (pos waveLimit) (pos (waveLimit - 1)) ∷ []) (ohms 1)
 
 -- ---- what is worked out for each n
 
--- a is further than E from q
+-- a is further than E − 1 from q
 unfoldable far : ℕ → ℤ → Fraction → Bool
-far E a q = ltb (E * q .den) (natAbs (a *ℤ pos (q .den) -ℤ q .num))
+far E a q = ltb ((E - 1) * q .den) (natAbs (a *ℤ pos (q .den) -ℤ q .num))
 
-far-beyond : (E : ℕ) (a : ℤ) (q : Fraction) → far E a q ≡ true → Near E a q → ⊥
+far-beyond : (E : ℕ) (a : ℤ) (q : Fraction) → far E a q ≡ true → Beyond E a q
 unfolding far
-far-beyond E a q e h = omega (arith, ltb-true (E * q .den) (natAbs (a *ℤ pos (q .den) -ℤ q .num)) e, h .near)
+far-beyond E a q e = record {
+  beyond = λ F l h.
+      let n = near-le {F = E - 1} (omega arith) h in
+      omega (arith, ltb-true ((E - 1) * q .den) (natAbs (a *ℤ pos (q .den) -ℤ q .num)) e, n .near);
+}
 
 module _ (n : ℕ) where
   abbrev x : ℤ
   x = pos (suc n)
 
-  abbrev roundedOut : ℤ
-  roundedOut = output (rounded (chain n)) (chain n) (storedAt (chain n) freshWaves x) x
+  -- the capacitor's row, where there is one
+  abbrev capacitorRow : ℕ
+  capacitorRow = 2 * n - 1
 
-  abbrev exactOut : Fraction
-  exactOut = output (unrounded (chain n)) (chain n) (λ j. whole (getD freshWaves j (pos 0))) x
+  abbrev out : ℤ
+  out = output rounded (reflected (chain n)) (chain n) (storedAt freshWaves) x
+
+  abbrev left : ℕ → ℤ
+  left = kept rounded (reflected (chain n)) (chain n) (storedAt freshWaves) x
+
+  abbrev straysOut : Bool
+  straysOut = far (leastLimit n) out (exactOutput (chain n) freshWaves x)
+
+  abbrev straysLeft : Bool
+  straysLeft = far (leastLimit n) (left capacitorRow) (exactKept (chain n) freshWaves x capacitorRow)
 
   unfoldable strays : Bool
   strays =
-      eqb (length (chain n .rows)) 31 && (eqb (length (chain n .columns)) 62 && (eqb (setUpReport (chain n) .number) 0
-      && (eqb (adaptorsOf (chain n)) n && (within sourceLimit x && (inLimit (chain n) freshWaves x && far (2 * n) roundedOut exactOut)))))
+      eqb (length (chain n .rows)) rowLimit && (eqb (length (chain n .columns)) columnLimit && (eqb (setUpReport (chain n) .number) 0
+      && (eqb (adaptorsOf (chain n)) n && (within sourceLimit x && (inLimit (chain n) freshWaves x && (straysOut && (eqb n 0 || straysLeft)))))))
 
--- by computation
-all-stray : every strays 16 ≡ true
-unfolding working links chain far strays
-all-stray = refl
+-- by computation, in two parts: the checker has a limit of steps for each
+abbrev low : ℕ
+low = 13
 
-worked : (n : ℕ) → strays n ≡ true → Strays n
+strays-low : every strays low ≡ true
+unfolding working sibling links chain far strays
+strays-low = refl
+
+strays-high : every (λ k. strays (low + k)) (suc adaptorLimit - low) ≡ true
+unfolding working sibling links chain far strays
+strays-high = refl
+
+found : (n : ℕ) → n ≤ adaptorLimit → strays n ≡ true → Strays n
 unfolding strays sampled
-worked n e =
+found n most e =
     let rows = and-eq-true-iff _ _ .0 e in
     let columns = and-eq-true-iff _ _ .0 (rows .1) in
     let report = and-eq-true-iff _ _ .0 (columns .1) in
     let adaptors = and-eq-true-iff _ _ .0 (report .1) in
     let source = and-eq-true-iff (within sourceLimit (x n)) _ .0 (adaptors .1) in
-    let limit = and-eq-true-iff (inLimit (chain n) freshWaves (x n)) (far (2 * n) (roundedOut n) (exactOut n)) .0 (source .1) in
+    let limit = and-eq-true-iff (inLimit (chain n) freshWaves (x n)) _ .0 (source .1) in
+    let far = and-eq-true-iff (straysOut n) _ .0 (limit .1) in
     record {
       circuit = chain n;
-      sized = record { rows = eqb-true (length (chain n .rows)) 31 (rows .0); columns = eqb-true (length (chain n .columns)) 62 (columns .0) };
+      sized = record { rows = eqb-true (length (chain n .rows)) rowLimit (rows .0); columns = eqb-true (length (chain n .columns)) columnLimit (columns .0) };
       accepted = set-up-done (chain n) (eqb-true (setUpReport (chain n) .number) 0 (report .0));
       adaptors = eqb-true (adaptorsOf (chain n)) n (adaptors .0);
       sample = x n;
-      out = roundedOut n;
-      next = table (kept (rounded (chain n)) (chain n) (storedAt (chain n) freshWaves (x n)) (x n)) rowLimit;
+      out = out n;
+      next = table (left n) rowLimit;
       works = rw (source .0, limit .0) refl;
-      beyond = far-beyond (2 * n) (roundedOut n) (exactOut n) (limit .1);
+      output = far-beyond (leastLimit n) (out n) (exactOutput (chain n) freshWaves (x n)) (far .0);
+      row = capacitorRow n;
+      stored = λ l.
+          rw (getD-table (left n) rowLimit (capacitorRow n) (pos 0) (omega arith))
+          (far-beyond (leastLimit n) (left n (capacitorRow n)) (exactKept (chain n) freshWaves (x n) (capacitorRow n)) (rw (ne-eqb n 0 (λ z. omega arith)) at far .1));
     }
 
-pub tight : (n : ℕ) → n ≤ 15 → Strays n
-tight n l = worked n (every-true strays 16 all-stray n (omega arith))
+pub tight : (n : ℕ) → n ≤ adaptorLimit → Strays n
+tight n l =
+    let all = every-on strays low (suc adaptorLimit - low) strays-low strays-high in
+    found n l (every-true strays (suc adaptorLimit) all n (omega arith))

@@ -1,25 +1,18 @@
--- A sample in whole microvolts with any rounding, and what a bound on its errors asks of the rounding and of the curve.
+-- What a bound on a sample's errors asks of the rounding, of the diode's answer and of the curve.
 use Prim.Native.Nat.{ℕ}
-use lib.IntN.{ℤ, _+ℤ_, negℤ}
+use lib.IntN.{ℤ}
 use Rattle.whole.specs.Fraction.{Fraction, whole, _-F_}
 use Rattle.whole.specs.Nearness.{NoFurther, Near}
-use Rattle.circuit.specs.Sample.{Arithmetic, fractions}
+use Rattle.circuit.specs.Sample.{Rounding, unrounded}
 
--- What is rounded: the wave that a parallel adaptor sends up, the one that a series adaptor sends its first child, and the diode's
--- answer. Everything else in a sample is a sum or an opposite, and exact.
-pub record Rounding : Type 0 where
-  pub join : ℕ → ℤ → ℤ → ℤ
-  pub split : ℕ → ℤ → ℤ → ℤ → ℤ
-  pub answer : ℤ → ℤ
+-- at the same whole waves, both that an adaptor rounds are within one of the unrounded value
+pub record ErrsByOne (ρ : Rounding) : Type 0 where
+  pub u : (g : ℕ) (a1 a2 : ℤ) → Near 1 (ρ .u g a1 a2) (unrounded .u g (whole a1) (whole a2))
+  pub b1 : (g : ℕ) (a1 a2 a3 : ℤ) → Near 1 (ρ .b1 g a1 a2 a3) (unrounded .b1 g (whole a1) (whole a2) (whole a3))
 
-abbrev pub wholeWaves : Rounding → Arithmetic
-wholeWaves ρ = record { Wave = ℤ; microvolts = λ z. z; _plus_ = _+ℤ_; minus = negℤ; join = ρ .join; split = ρ .split; answer = ρ .answer }
-
--- at the same whole waves, each of the three is within one of the unrounded value
-pub record ErrsByOne (ρ : Rounding) (curve : Fraction → Fraction) : Type 0 where
-  pub join : (g : ℕ) (a1 a2 : ℤ) → Near 1 (ρ .join g a1 a2) (fractions curve .join g (whole a1) (whole a2))
-  pub split : (g : ℕ) (a1 a2 a3 : ℤ) → Near 1 (ρ .split g a1 a2 a3) (fractions curve .split g (whole a1) (whole a2) (whole a3))
-  pub answer : (a : ℤ) → Near 1 (ρ .answer a) (curve (whole a))
+-- at a whole wave, the answer is within one of the curve
+pub record Follows (answer : ℤ → ℤ) (curve : Fraction → Fraction) : Type 0 where
+  pub near : (a : ℤ) → Near 1 (answer a) (curve (whole a))
 
 -- the curve moves no further than its input
 pub record Gently (curve : Fraction → Fraction) : Type 0 where

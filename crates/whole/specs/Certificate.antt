@@ -27,10 +27,6 @@ nn-mul {x = pos a} {y = pos b} h k = record { nn = refl }
 nn-mul {x = pos a} {y = negsuc b} h k = absurd (omega arith)
 nn-mul {x = negsuc a} {y = y} h k = absurd (omega arith)
 
-pub nn-square : (x : ℤ) → NN (x *ℤ x)
-nn-square (pos a) = record { nn = refl }
-nn-square (negsuc a) = record { nn = refl }
-
 pub le-nn : {x y : ℤ} → NN (y -ℤ x) → x ≤ℤ y
 le-nn {x} {y} h = omega (zarith, at y ⊟ at x)
 

@@ -2,15 +2,10 @@
 use mathlib.Core.Path.{refl}
 use mathlib.Core.List.{[], _∷_}
 use Prim.Native.Nat.{ℕ}
-use lib.IntN.{ℤ, pos, _+ℤ_, _*ℤ_, _-ℤ_}
+use lib.IntN.{ℤ, pos, _*ℤ_, _-ℤ_}
 use lib.Signed.{_≤ℤ_}
 use Rattle.whole.specs.Ring.{var, con, _⊕_, _⊗_, _⊝_}
-use Rattle.whole.specs.Certificate.{NN, nn-pos, nn-diff, nn-add, nn-mul, nn-square, le-nn, nlin}
-
-twice-a-product : (x y : ℤ) → (pos 2 *ℤ x *ℤ y) ≤ℤ (x *ℤ x +ℤ y *ℤ y)
-twice-a-product x y =
-    let X = var 0 in let Y = var 1 in
-    nlin (x ∷ y ∷ []) (con (pos 2) ⊗ X ⊗ Y) (X ⊗ X ⊕ Y ⊗ Y) ((X ⊝ Y) ⊗ (X ⊝ Y)) (nn-square (x -ℤ y)) refl
+use Rattle.whole.specs.Certificate.{NN, nn-pos, nn-diff, nn-add, nn-mul, le-nn, nlin}
 
 products-compare : (x y a : ℤ) (b : ℕ) → pos 0 ≤ℤ x → x ≤ℤ a → y ≤ℤ pos b → (x *ℤ y) ≤ℤ (a *ℤ pos b)
 products-compare x y a b x0 xa yb =

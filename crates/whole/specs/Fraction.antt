@@ -1,11 +1,11 @@
 -- A fraction of whole numbers: an integer over a natural number above 0. It is not reduced: two fractions are the same number
 -- where their cross products are equal, and that is `_≈_`. Definitions only.
-use Prim.Native.Nat.{ℕ, zero, suc, _+_, _*_, _<_, _≤_}
+use Prim.Native.Nat.{ℕ, zero, _*_, _<_}
 use native.Mathlib.Omega.{arith}
 use native.Mathlib.Nat.{mul-pos}
 use mathlib.Core.Path.{_≡_}
 use mathlib.Core.Bool.{Bool}
-use lib.IntN.{ℤ, pos, _+ℤ_, _*ℤ_, negℤ, natAbs}
+use lib.IntN.{ℤ, pos, _+ℤ_, _*ℤ_, negℤ}
 use lib.Signed.{_≤ℤ_, ltZ}
 
 pub record Fraction : Type 0 where

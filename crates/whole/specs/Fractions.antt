@@ -1,21 +1,19 @@
 -- Laws of fractions: `_≈_` is an equality that every operation keeps, the operations obey the laws of numbers up to it, and
 -- `_≤F_` is a total order on the numbers that the operations keep or turn round.
 use mathlib.Core.Path.{_≡_, refl, sym}
-use mathlib.Core.Bool.{Bool, true, false}
+use mathlib.Core.Bool.{true, false}
 use mathlib.Core.List.{[], _∷_}
 use mathlib.Core.Logic.{_⊎_, inl, inr}
 use Prim.Native.Nat.{ℕ, zero, _*_, _<_}
-use native.Mathlib.Nat.{mul-pos}
 use lib.IntN.{ℤ, pos, negsuc, _+ℤ_, _*ℤ_}
-use lib.Dec.{T}
-use lib.Signed.{_≤ℤ_, _<ℤ_, ≤ℤ-refl, ltZ-yes}
+use lib.Signed.{_≤ℤ_, _<ℤ_, ≤ℤ-refl}
 use Rattle.whole.specs.Integers.{at, _⊠_}
 use Rattle.whole.specs.Order.{zarith, le-cancel, lt-scale, lt-cancel, eq-cancel, le-or-lt, ltZ-true, ltZ-false}
 use Rattle.whole.specs.Ring.{var, con, _⊕_, _⊗_, _⊝_, ring}
 use Rattle.whole.specs.Combine.{multiple, combine}
 use Rattle.whole.specs.Certificate.{nn-pos, nn-add, nn-mul, nn-diff, nlin}
-use Rattle.whole.specs.Mirror.{parts, fracE, overE, wholeE, _⊕F_, ⊖F, _⊝F_, timesE, by, by-facts, by-certificate}
-use Rattle.whole.specs.Fraction.{Fraction, over, whole, _+F_, negF, _-F_, times, below, _≈_, _≤F_}
+use Rattle.whole.specs.Mirror.{parts, fracE, wholeE, _⊕F_, ⊖F, _⊝F_, timesE, by, by-facts, by-certificate}
+use Rattle.whole.specs.Fraction.{Fraction, whole, _+F_, negF, _-F_, times, below, _≈_, _≤F_}
 
 -- ---- the same number
 
@@ -65,21 +63,8 @@ pub ≈-times : (c : ℤ) (k : ℕ) (k0 : zero < k) {p q : Fraction} → p ≈ q
 pub sum-comm : (p q : Fraction) → p +F q ≈ q +F p
 sum-comm p q = record { same = by (parts (p ∷ q ∷ []) []) (fracE 0 ⊕F fracE 1) (fracE 1 ⊕F fracE 0) refl }
 
-pub sum-assoc : (p q r : Fraction) → p +F q +F r ≈ p +F (q +F r)
-sum-assoc p q r =
-    record { same = by (parts (p ∷ q ∷ r ∷ []) []) (fracE 0 ⊕F fracE 1 ⊕F fracE 2) (fracE 0 ⊕F (fracE 1 ⊕F fracE 2)) refl }
-
 pub sum-zero : (p : Fraction) → p +F whole (pos 0) ≈ p
 sum-zero p = record { same = by (parts (p ∷ []) []) (fracE 0 ⊕F wholeE (con (pos 0))) (fracE 0) refl }
-
-pub difference-self : (p : Fraction) → p -F p ≈ whole (pos 0)
-difference-self p = record { same = by (parts (p ∷ []) []) (fracE 0 ⊝F fracE 0) (wholeE (con (pos 0))) refl }
-
-pub sum-undo : (p q : Fraction) → p +F q -F q ≈ p
-sum-undo p q = record { same = by (parts (p ∷ q ∷ []) []) (fracE 0 ⊕F fracE 1 ⊝F fracE 1) (fracE 0) refl }
-
-pub opposite-twice : (p : Fraction) → negF (negF p) ≈ p
-opposite-twice p = record { same = by (parts (p ∷ []) []) (⊖F (⊖F (fracE 0))) (fracE 0) refl }
 
 pub opposite-sum : (p q : Fraction) → negF (p +F q) ≈ negF p +F negF q
 opposite-sum p q = record { same = by (parts (p ∷ q ∷ []) []) (⊖F (fracE 0 ⊕F fracE 1)) (⊖F (fracE 0) ⊕F ⊖F (fracE 1)) refl }
@@ -90,28 +75,6 @@ opposite-difference p q = record { same = by (parts (p ∷ q ∷ []) []) (⊖F (
 pub whole-sum : (a b : ℤ) → whole a +F whole b ≈ whole (a +ℤ b)
 whole-sum a b = record { same = by (a ∷ b ∷ []) (wholeE (var 0) ⊕F wholeE (var 1)) (wholeE (var 0 ⊕ var 1)) refl }
 
-module _ (c : ℤ) (k : ℕ) (k0 : zero < k) where
-  pub times-sum : (p q : Fraction) → times c k k0 (p +F q) ≈ times c k k0 p +F times c k k0 q
-  times-sum p q =
-      let t = timesE (var 4) (var 5) in
-      record { same = by (parts (p ∷ q ∷ []) (c ∷ pos k ∷ [])) (t (fracE 0 ⊕F fracE 1)) (t (fracE 0) ⊕F t (fracE 1)) refl }
-
-  pub times-opposite : (p : Fraction) → times c k k0 (negF p) ≈ negF (times c k k0 p)
-  times-opposite p =
-      let t = timesE (var 2) (var 3) in
-      record { same = by (parts (p ∷ []) (c ∷ pos k ∷ [])) (t (⊖F (fracE 0))) (⊖F (t (fracE 0))) refl }
-
-  pub times-times : (b : ℤ) (j : ℕ) (j0 : zero < j) (p : Fraction) → times c k k0 (times b j j0 p) ≈ times (c *ℤ b) (k * j) (mul-pos k0 j0) p
-  times-times b j j0 p =
-      let C = var 2 in let K = var 3 in let B = var 4 in let J = var 5 in
-      record { same = by (parts (p ∷ []) (c ∷ pos k ∷ b ∷ pos j ∷ [])) (timesE C K (timesE B J (fracE 0))) (timesE (C ⊗ B) (K ⊗ J) (fracE 0)) refl }
-
-  pub times-whole : (a : ℤ) → times c k k0 (whole a) ≈ over (c *ℤ a) k k0
-  times-whole a = record { same = by (c ∷ pos k ∷ a ∷ []) (timesE (var 0) (var 1) (wholeE (var 2))) (overE (var 0 ⊗ var 2) (var 1)) refl }
-
-pub times-one : (k : ℕ) (k0 : zero < k) (p : Fraction) → times (pos k) k k0 p ≈ p
-times-one k k0 p = record { same = by (parts (p ∷ []) (pos k ∷ [])) (timesE (var 2) (var 2) (fracE 0)) (fracE 0) refl }
-
 -- ---- the order
 
 pub ≤F-refl : (p : Fraction) → p ≤F p
@@ -119,14 +82,6 @@ pub ≤F-refl : (p : Fraction) → p ≤F p
 
 pub ≈-≤F : {p q : Fraction} → p ≈ q → p ≤F q
 ≈-≤F {p} {q} h = let x = p .num *ℤ pos (q .den) in let y = q .num *ℤ pos (p .den) in let e : x ≡ y = h .same in record { le = omega zarith }
-
-pub ≤F-antisym : {p q : Fraction} → p ≤F q → q ≤F p → p ≈ q
-≤F-antisym {p} {q} h k =
-    let x = p .num *ℤ pos (q .den) in
-    let y = q .num *ℤ pos (p .den) in
-    let l : x ≤ℤ y = h .le in
-    let g : y ≤ℤ x = k .le in
-    record { same = omega zarith }
 
 pub ≤F-total : (p q : Fraction) → (p ≤F q) ⊎ (q ≤F p)
 ≤F-total p q =
@@ -153,11 +108,6 @@ pub ≤F-add : {p q r s : Fraction} → p ≤F q → r ≤F s → p +F r ≤F q 
           ((var 2 ⊗ d ⊝ var 0 ⊗ e) ⊗ (f ⊗ g) ⊕ (var 6 ⊗ f ⊝ var 4 ⊗ g) ⊗ (d ⊗ e))
           (nn-add (nn-mul (nn-diff (h .le)) (nn-pos (r .den * s .den))) (nn-mul (nn-diff (k .le)) (nn-pos (p .den * q .den)))) refl;
     }
-
--- what stands on both sides of a sum may go
-pub ≤F-cancel : {p q : Fraction} (r : Fraction) → p +F r ≤F q +F r → p ≤F q
-≤F-cancel {p} {q} r h =
-    ≤F-trans (≈-≤F (≈-sym (sum-undo p r))) (≤F-trans (≤F-add h (≤F-refl (negF r))) (≈-≤F (sum-undo q r)))
 
 -- a ratio that is not negative keeps the order
 pub ≤F-times : (c k : ℕ) (k0 : zero < k) {p q : Fraction} → p ≤F q → times (pos c) k k0 p ≤F times (pos c) k k0 q
@@ -195,12 +145,3 @@ less-as {p} {q} z h l =
     let f : y ≡ y′ = ring (z ∷ pos (p .den) ∷ pos (q .den) ∷ []) (var 0 ⊗ var 1 ⊗ var 2) (var 0 ⊗ var 2 ⊗ var 1) refl in
     let less : x′ <ℤ y′ = omega zarith in
     lt-cancel (p .den) less
-
-pub below-as : (p q : Fraction) (z : ℤ) → p ≈ q → below p z ≡ below q z
-below-as p q z h = choose (below p z) (below q z) (λ t. less-as z h (ltZ-yes t) .lt) (λ t. less-as z (≈-sym h) (ltZ-yes t) .lt)
-  where
-    choose : (b c : Bool) → (T b → T c) → (T c → T b) → b ≡ c
-    choose true true f g = refl
-    choose true false f g = absurd (f tt)
-    choose false true f g = absurd (g tt)
-    choose false false f g = refl

@@ -2,19 +2,17 @@
 -- and roundings do to it. An error bound of a computation is a chain of these laws; the mixing law at the end is one adaptor's.
 use mathlib.Core.Path.{_≡_, refl, ap}
 use mathlib.Core.List.{[], _∷_}
-use Prim.Native.Nat.{ℕ, zero, _+_, _*_, _-_, _^_, _<_, _≤_, max}
+use Prim.Native.Nat.{ℕ, zero, _+_, _*_, _-_, _<_, _≤_}
 use native.Mathlib.Omega.{arith}
-use native.Mathlib.Nat.{mul-le-mul-right, mul-pos, le-of-mul-le-mul-right, le-max-left, le-max-right}
-use lib.Pow.{pow-pos}
+use native.Mathlib.Nat.{mul-le-mul-right, mul-pos, le-of-mul-le-mul-right}
 use lib.IntN.{ℤ, pos, negsuc, _+ℤ_, _*ℤ_, _-ℤ_, negℤ, natAbs}
 use lib.Signed.{_≤ℤ_}
 use Rattle.whole.specs.Integers.{at, is-neg, _⊟_, _⊠_}
 use Rattle.whole.specs.Order.{zarith, Abs, abs-parts, natAbs-neg, natAbs-mul, abs-add, abs-neg, abs-mul, abs-scale, abs-as}
 use Rattle.whole.specs.Ring.{Exp, var, con, _⊕_, _⊗_, _⊝_, ⊖}
 use Rattle.whole.specs.Combine.{multiple}
-use Rattle.whole.specs.Mirror.{Quot, parts, fracE, overE, wholeE, _⊕F_, ⊖F, _⊝F_, timesE, by, by-facts}
+use Rattle.whole.specs.Mirror.{Quot, parts, fracE, wholeE, _⊕F_, ⊖F, _⊝F_, timesE, by, by-facts}
 use Rattle.whole.specs.Quotients.{Rounds, rounds-abs}
-use Rattle.whole.specs.Fractions.{opposite-sum, opposite-difference}
 use Rattle.whole.specs.Fraction.{Fraction, over, whole, _+F_, negF, _-F_, times, _≈_, _≤F_}
 
 -- ---- |p| ≤ E
@@ -70,11 +68,6 @@ no-further-as {p} {p′} {q} {q′} e f h =
     let known = mul-le-mul-right (p′ .den * q′ .den) (h .no-further) in
     let l : natAbs (p′ .num) * q′ .den * (p .den * q .den) ≤ natAbs (q′ .num) * p′ .den * (p .den * q .den) = omega (arith, first, second, known) in
     record { no-further = le-of-mul-le-mul-right l (mul-pos (p .den-pos) (q .den-pos)) }
-
-pub small-by : {E : ℕ} {p q : Fraction} → NoFurther p q → Small E q → Small E p
-small-by {E} {p} {q} k h =
-    let e : natAbs (p .num) * q .den ≤ E * p .den * q .den = omega (arith, k, mul-le-mul-right (p .den) (h .small .bound)) in
-    record { small = record { bound = le-of-mul-le-mul-right e (q .den-pos) } }
 
 -- ---- |a − q| ≤ E
 
@@ -138,23 +131,6 @@ near-move {a = a} {p} {q} h k =
     near-by (small-add (near-small h) k)
     (by (parts (p ∷ q ∷ []) (a ∷ [])) (gapE (var 4) (fracE 0) ⊕F (fracE 0 ⊝F fracE 1)) (gapE (var 4) (fracE 1)) refl) (omega arith)
 
-pub apart-trans : {E F : ℕ} (p q r : Fraction) → Small E (p -F q) → Small F (q -F r) → Small (E + F) (p -F r)
-apart-trans p q r h k =
-    small-as (record { same = by (parts (p ∷ q ∷ r ∷ []) []) (fracE 0 ⊝F fracE 1 ⊕F (fracE 1 ⊝F fracE 2)) (fracE 0 ⊝F fracE 2) refl }) (small-add h k)
-
-pub apart-sym : {E : ℕ} (p q : Fraction) → Small E (p -F q) → Small E (q -F p)
-apart-sym p q h = small-as (opposite-difference p q) (small-neg h)
-
-pub apart-neg : {E : ℕ} (p q : Fraction) → Small E (p -F q) → Small E (negF p -F negF q)
-apart-neg p q h = small-as (opposite-sum p (negF q)) (small-neg h)
-
-pub apart-add : {E F : ℕ} (p p′ q q′ : Fraction) → Small E (p -F p′) → Small F (q -F q′) → Small (E + F) (p +F q -F (p′ +F q′))
-apart-add p p′ q q′ h k =
-    small-as (record {
-      same = by (parts (p ∷ p′ ∷ q ∷ q′ ∷ []) [])
-          (fracE 0 ⊝F fracE 1 ⊕F (fracE 2 ⊝F fracE 3)) (fracE 0 ⊕F fracE 2 ⊝F (fracE 1 ⊕F fracE 3)) refl;
-    }) (small-add h k)
-
 -- ---- mixtures: (g·p + (W − g)·q) / W, for g from 0 to W
 
 abbrev pub mixture : (g W : ℕ) → zero < W → Fraction → Fraction → Fraction
@@ -178,29 +154,3 @@ module _ (g W : ℕ) (w : zero < W) (l : g ≤ W) where
         small = abs-as (abs-add (abs-scale (abs-mul first (h .small)) (W * q .den)) (abs-scale (abs-mul second (k .small)) (W * p .den))) refl
             (shares g (W - g) W E (p .den) (q .den) all);
       }
-
-  pub apart-mix : {E F : ℕ} (p p′ q q′ : Fraction) → Small E (p -F p′) → Small F (q -F q′) → Small (max E F) (mixture g W w p q -F mixture g W w p′ q′)
-  apart-mix {E} {F} p p′ q q′ h k =
-      let m = mixtureE (var 8) (var 9) in
-      small-as (record {
-        same = by (parts (p ∷ p′ ∷ q ∷ q′ ∷ []) (pos g ∷ pos W ∷ []))
-            (m (fracE 0 ⊝F fracE 1) (fracE 2 ⊝F fracE 3)) (m (fracE 0) (fracE 2) ⊝F m (fracE 1) (fracE 3)) refl;
-      })
-      (small-mix (small-le (le-max-left E F) h) (small-le (le-max-right E F) k))
-
-  -- whole numbers within E and F of two fractions, mixed and then rounded: within max E F + 1 of the exact mixture
-  pub near-mix : {E F : ℕ} {a b r : ℤ} {p q : Fraction} → Near E a p → Near F b q
-      → Rounds r (pos g *ℤ a +ℤ (pos W -ℤ pos g) *ℤ b) W → Near (max E F + 1) r (mixture g W w p q)
-  near-mix {E} {F} {a} {b} {r} {p} {q} h k o =
-      let R = var 4 in let A = var 5 in let B = var 6 in let G = var 7 in let K = var 8 in
-      near-by
-      (small-add (small-mix (small-le (le-max-left E F) (near-small h)) (small-le (le-max-right E F) (near-small k))) (near-small (near-rounds w o)))
-      (by (parts (p ∷ q ∷ []) (r ∷ a ∷ b ∷ pos g ∷ pos W ∷ []))
-      (mixtureE G K (gapE A (fracE 0)) (gapE B (fracE 1)) ⊕F gapE R (overE (G ⊗ A ⊕ (K ⊝ G) ⊗ B) K))
-      (gapE R (mixtureE G K (fracE 0) (fracE 1))) refl)
-      (omega arith)
-
--- the weights as an adaptor has them: a numerator g over a power of two
-pub near-mix-pow : {E F : ℕ} {a b r : ℤ} {p q : Fraction} (g w : ℕ) → g ≤ 2 ^ w → Near E a p → Near F b q
-    → Rounds r (pos g *ℤ a +ℤ (pos (2 ^ w) -ℤ pos g) *ℤ b) (2 ^ w) → Near (max E F + 1) r (mixture g (2 ^ w) (pow-pos w) p q)
-near-mix-pow g w l h k o = near-mix g (2 ^ w) (pow-pos w) l h k o

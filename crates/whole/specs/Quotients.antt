@@ -1,7 +1,7 @@
 -- Quotients of an integer by a natural number above zero: rounded down (`shrZ z m`) and rounded toward zero
 -- (`quotZ z (pos m)`). `Rounds r z m` is what both have in common, and all that a bound on rounding errors needs to know.
 use mathlib.Core.Path.{_≡_, refl, sym, ap, _∙_}
-use Prim.Native.Nat.{ℕ, zero, suc, _+_, _*_, _/_, _<_, _≤_}
+use Prim.Native.Nat.{ℕ, zero, suc, _*_, _/_, _<_, _≤_}
 use native.Mathlib.Omega.{arith}
 use native.Mathlib.Nat.{div-add-mod', mod-lt, zero-div}
 use lib.IntN.{ℤ, pos, negsuc, _+ℤ_, _*ℤ_, _-ℤ_, negℤ, natAbs, negℤ-negℤ}
@@ -108,31 +108,11 @@ trunc-odd (pos zero) m = ap pos (zero-div m) ∙ sym (ap (λ (n : ℕ). negℤ (
 trunc-odd (pos (suc a)) m = refl
 trunc-odd (negsuc a) m = sym (negℤ-negℤ (pos (suc a / m)))
 
--- from zero up it is the floor; `trunc-odd` says the rest
-pub trunc-floor : {z : ℤ} (m : ℕ) → pos 0 ≤ℤ z → quotZ z (pos m) ≡ shrZ z m
-trunc-floor {z = pos a} m h = refl
-trunc-floor {z = negsuc a} m h = absurd (h .le)
-
 -- the two sides of it: |q|·m ≤ |z| < |q|·m + m
 pub trunc-low : (z : ℤ) (m : ℕ) → natAbs (quotZ z (pos m)) * m ≤ natAbs z
 trunc-low (pos a) m = omega (arith, div-add-mod' a m)
 trunc-low (negsuc a) m = rw natAbs-neg (omega (arith, div-add-mod' (suc a) m))
 
-pub trunc-high : (z : ℤ) (m : ℕ) → zero < m → natAbs z < natAbs (quotZ z (pos m)) * m + m
-trunc-high (pos a) m m0 = omega (arith, div-add-mod' a m, mod-lt a m0)
-trunc-high (negsuc a) m m0 = rw natAbs-neg (omega (arith, div-add-mod' (suc a) m, mod-lt (suc a) m0))
-
 pub trunc-rounds : (z : ℤ) (m : ℕ) → zero < m → Rounds (quotZ z (pos m)) z m
 trunc-rounds (pos a) m m0 = floor-rounds (pos a) m m0
 trunc-rounds (negsuc a) m m0 = rounds-neg (floor-rounds (pos (suc a)) m m0)
-
-pub trunc-mono : {x y : ℤ} (m : ℕ) → zero < m → x ≤ℤ y → quotZ x (pos m) ≤ℤ quotZ y (pos m)
-trunc-mono {x = pos a} {y = pos b} m m0 h = floor-mono m m0 h
-trunc-mono {x = pos a} {y = negsuc b} m m0 h = absurd (h .le)
-trunc-mono {x = negsuc a} {y = pos b} m m0 h = omega (zarith, is-neg (at (pos (suc a / m))))
-trunc-mono {x = negsuc a} {y = negsuc b} m m0 h =
-    let k : pos (suc b) ≤ℤ pos (suc a) = omega zarith in
-    omega (zarith, floor-mono m m0 k, is-neg (at (pos (suc a / m))), is-neg (at (pos (suc b / m))))
-
-pub trunc-exact : (q : ℤ) (m : ℕ) → zero < m → quotZ (q *ℤ pos m) (pos m) ≡ q
-trunc-exact q m m0 = rounds-exact q (trunc-rounds (q *ℤ pos m) m m0)

@@ -1,11 +1,11 @@
 -- The two quotients at numbers that show how they differ: 7 and −7 by 2, and 100 and −100 by 2^24.
 use mathlib.Core.Path.{_≡_, refl}
-use Prim.Native.Nat.{_^_, _<_, _≤_}
+use Prim.Native.Nat.{_^_}
 use native.Mathlib.Omega.{arith}
 use lib.IntN.{ℤ, pos, negsuc, _+ℤ_, _*ℤ_, _-ℤ_, negℤ}
 use lib.Signed.{_≤ℤ_, _<ℤ_, shrZ, quotZ, leZ-yes, ltZ-yes}
 use Rattle.whole.specs.Order.{Abs}
-use Rattle.whole.specs.Quotients.{Rounds, rounds-abs, rounds-neg, rounds-add, rounds-exact, rounds-bound, floor-low, floor-high, floor-rounds, floor-greatest, floor-least, floor-unique, floor-mono, floor-exact, trunc-odd, trunc-floor, trunc-low, trunc-high, trunc-rounds, trunc-mono, trunc-exact}
+use Rattle.whole.specs.Quotients.{Rounds, rounds-abs, rounds-neg, rounds-add, rounds-exact, rounds-bound, floor-low, floor-high, floor-rounds, floor-greatest, floor-least, floor-unique, trunc-odd, trunc-rounds}
 
 -- −7 / 2 is −4 rounded down and −3 rounded toward zero
 minus-seven-halves : (shrZ (negsuc 6) 2 ≡ negsuc 3) × (quotZ (negsuc 6) (pos 2) ≡ negsuc 2)
@@ -19,10 +19,6 @@ both-round = (floor-rounds (negsuc 6) 2 (omega arith), trunc-rounds (negsuc 6) 2
 down-two-sides : ((negsuc 3 *ℤ pos 2) ≤ℤ negsuc 6) × (negsuc 6 <ℤ (negsuc 3 *ℤ pos 2 +ℤ pos 2))
 down-two-sides = (floor-low (negsuc 6) 2 (omega arith), floor-high (negsuc 6) 2 (omega arith))
 
--- 6 ≤ 7 < 8, by absolute values
-toward-zero-two-sides : (6 ≤ 7) × (7 < 8)
-toward-zero-two-sides = (trunc-low (negsuc 6) 2, trunc-high (negsuc 6) 2 (omega arith))
-
 down-is-the-greatest : (q : ℤ) → (q *ℤ pos 2) ≤ℤ negsuc 6 → q ≤ℤ negsuc 3
 down-is-the-greatest q h = floor-greatest q (negsuc 6) 2 (omega arith) h
 
@@ -32,20 +28,11 @@ down-is-the-least q h = floor-least q (negsuc 6) 2 (omega arith) h
 found-by-its-sides : negsuc 3 ≡ shrZ (negsuc 6) 2
 found-by-its-sides = floor-unique (negsuc 3) (negsuc 6) 2 (omega arith) (leZ-yes tt) (ltZ-yes tt)
 
-keep-order : (x : ℤ) → x ≤ℤ pos 7 → (shrZ x 2 ≤ℤ pos 3) × (quotZ x (pos 2) ≤ℤ pos 3)
-keep-order x h = (floor-mono 2 (omega arith) h, trunc-mono 2 (omega arith) h)
-
-whole-multiples : (q : ℤ) → (shrZ (q *ℤ pos (2 ^ 24)) (2 ^ 24) ≡ q) × (quotZ (q *ℤ pos (2 ^ 24)) (pos (2 ^ 24)) ≡ q)
-whole-multiples q = (floor-exact q (2 ^ 24) (omega arith), trunc-exact q (2 ^ 24) (omega arith))
-
 any-rounding-of-a-multiple : (r : ℤ) → Rounds r (pos 5 *ℤ pos 3) 3 → r ≡ pos 5
 any-rounding-of-a-multiple r h = rounds-exact (pos 5) h
 
 toward-zero-is-odd : (z : ℤ) → quotZ (negℤ z) (pos 2) ≡ negℤ (quotZ z (pos 2))
 toward-zero-is-odd z = trunc-odd z 2
-
-toward-zero-from-zero-up : (z : ℤ) → pos 0 ≤ℤ z → quotZ z (pos 2) ≡ shrZ z 2
-toward-zero-from-zero-up z h = trunc-floor 2 h
 
 -- a number of 26 bits by 2^24 has two bits, however it is rounded
 two-bits : (z : ℤ) → Abs z (2 ^ 26) → Abs (shrZ z (2 ^ 24)) 4 × Abs (quotZ z (pos (2 ^ 24))) 4

@@ -9,9 +9,9 @@ difference-of-squares : (x y : ℤ) → (x +ℤ y) *ℤ (x -ℤ y) ≡ x *ℤ x 
 difference-of-squares x y = ring (x ∷ y ∷ []) ((var 0 ⊕ var 1) ⊗ (var 0 ⊝ var 1)) (var 0 ⊗ var 0 ⊝ var 1 ⊗ var 1) refl
 
 -- a power with a literal exponent is a constant, and one with another exponent is a variable
-powers-of-two : (x : ℤ) (w : ℕ) → (x -ℤ pos (2 ^ 24)) *ℤ pos (2 ^ w) ≡ x *ℤ pos (2 ^ w) -ℤ pos 16777216 *ℤ pos (2 ^ w)
+powers-of-two : (x : ℤ) (w : ℕ) → (x -ℤ pos (2 ^ 16)) *ℤ pos (2 ^ w) ≡ x *ℤ pos (2 ^ w) -ℤ pos 65536 *ℤ pos (2 ^ w)
 powers-of-two x w =
-    ring (x ∷ pos (2 ^ w) ∷ []) ((var 0 ⊝ con (pos (2 ^ 24))) ⊗ var 1) (var 0 ⊗ var 1 ⊝ con (pos 16777216) ⊗ var 1) refl
+    ring (x ∷ pos (2 ^ w) ∷ []) ((var 0 ⊝ con (pos (2 ^ 16))) ⊗ var 1) (var 0 ⊗ var 1 ⊝ con (pos 65536) ⊗ var 1) refl
 
 -- Euler: a product of two sums of four squares is a sum of four squares
 four-squares : (a b c d p q r s : ℤ) → (a *ℤ a +ℤ b *ℤ b +ℤ c *ℤ c +ℤ d *ℤ d) *ℤ (p *ℤ p +ℤ q *ℤ q +ℤ r *ℤ r +ℤ s *ℤ s)

@@ -1,12 +1,14 @@
 -- What signed code asks: that a result fits its width (`SFits`), and that bits read back as the number they were written for.
 -- The rules are over any width. `signed` is for `search`; `zfits` is `zarith` with the ranges of the signed widths, for `omega`.
-use mathlib.Core.Path.{_≡_}
+use mathlib.Core.Path.{_≡_, refl, sym, _∙_}
+use mathlib.Core.Bool.{Bool, true, false, _&&_}
 use Prim.Native.Nat.{ℕ, suc, _+_, _/_, _^_, _<_, _≤_, min, max}
 use native.Mathlib.Omega.{arith}
 use native.Mathlib.Nat.{mul-le-mul, div-le-self, lt-of-lt-of-le}
+use lib.Dec.{leb, leb·suc-suc}
 use lib.Pow.{pow-add, pow-mono}
 use lib.IntN.{ℤ, pos, negsuc, _*ℤ_, natAbs}
-use lib.Signed.{shrZ, quotZ, mag-shr}
+use lib.Signed.{leZ, shrZ, quotZ, mag-shr}
 use mir.Syntax.{Width, w32, w64}
 use mir.Val.{SFits, Fits, bits, hbits, toZ}
 use mir.ValLaws.{toZ-pos, sfits-le, fits-sub}
@@ -34,6 +36,15 @@ toZ-narrow w n h l = toZ-pos w n (lt-of-lt-of-le (h .fits) (pow-mono l))
 -- as a rewrite rule it has to name its widths: a u32 cast to an i64
 pub toZ-u32 : (n : ℕ) → Fits w32 n → toZ w64 n ≡ pos n
 toZ-u32 n h = toZ-narrow w64 n h (omega arith)
+
+-- "of magnitude up to" is two comparisons
+pub within-test : (m : ℕ) (z : ℤ) → leZ (negsuc m) z && leZ z (pos (suc m)) ≡ leb (natAbs z) (suc m)
+within-test m (pos n) = refl
+within-test m (negsuc n) = and-true (leb n m) ∙ sym (leb·suc-suc n m)
+  where
+    and-true : (a : Bool) → a && true ≡ a
+    and-true true = refl
+    and-true false = refl
 
 -- ---- for `omega`
 

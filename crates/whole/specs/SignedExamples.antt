@@ -1,15 +1,17 @@
 -- What a signed product, its quotient and a cast ask, at the widths of 32 and 64 bits.
 use mathlib.Core.Path.{_≡_}
+use mathlib.Core.Bool.{_&&_}
 use Prim.Native.Nat.{ℕ, _^_, _<_}
 use native.Mathlib.Omega.{arith}
-use lib.IntN.{ℤ, pos, _+ℤ_, _*ℤ_, natAbs}
-use lib.Signed.{shrZ, quotZ}
+use lib.Dec.{leb}
+use lib.IntN.{ℤ, pos, negsuc, _+ℤ_, _*ℤ_, natAbs}
+use lib.Signed.{leZ, shrZ, quotZ}
 use mir.Syntax.{w8, w32, w64}
 use mir.Val.{SFits, Fits, toZ, ofZ}
 use mir.ValLaws.{toZ-ofZ}
 use Rattle.whole.specs.Integers.{at, _⊞_}
 use Rattle.whole.specs.Order.{Abs}
-use Rattle.whole.specs.Signed.{fits-abs, scaled-fits, shr-fits, trunc-fits, toZ-narrow, toZ-u32, signed, zfits}
+use Rattle.whole.specs.Signed.{fits-abs, scaled-fits, shr-fits, trunc-fits, toZ-narrow, toZ-u32, within-test, signed, zfits}
 
 -- g·t of 24 and 38 bits, and its quotient by 2^24 either way
 ratio-of-a-wave : (g : ℕ) (t : ℤ) → g < 2 ^ 24 → natAbs t < 2 ^ 38 → SFits w64 (shrZ (pos g *ℤ t) (2 ^ 24)) × SFits w64 (quotZ (pos g *ℤ t) (pos (2 ^ 24)))
@@ -33,5 +35,8 @@ byte-as-i32 n h = toZ-narrow w32 n h (omega arith)
 u32-as-i64 : (n : ℕ) → Fits w32 n → toZ w64 n ≡ pos n
 u32-as-i64 n h = toZ-u32 n h
 
-found-by-search : (z : ℤ) → SFits w64 z → SFits w64 (shrZ (quotZ z (pos 3)) 16777216)
+found-by-search : (z : ℤ) → SFits w64 z → SFits w64 (shrZ (quotZ z (pos 3)) (2 ^ 24))
 found-by-search z h = search signed
+
+hundred-either-way : (z : ℤ) → leZ (negsuc 99) z && leZ z (pos 100) ≡ leb (natAbs z) 100
+hundred-either-way z = within-test 99 z

@@ -1,25 +1,28 @@
 -- The rules of the bytes first, then what set-up hands back of their record.
 use mathlib.Core.Path.{_≡_, sym, ap, _∙_}
+use native.Mathlib.Omega.{arith}
 use borrow.Author.Needs.{needs}
 use Rattle.circuit.specs.Numbers.{handed, judge}
-use Rattle.circuit.specs.File.{readReport}
 use Rattle.circuit.specs.SetUp.{setUpReport}
-use Rattle.file.specs.Placing.{fileRules}
-use Rattle.file.proofs.Judged.{judged-length, read-stop, read-on, record-read, record-refused}
+use Rattle.circuit.specs.File.{fileRules, readReport}
+use Rattle.file.proofs.Judged.{judged-length, read-stop, read-on, reads-record, reads-nothing}
 use Rattle.file.proofs.read.Statement.{statement}
 use Rattle.file.proofs.read.Tie as tie
 
+-- the number that the first test looks at is that of the rules of the bytes
+looked : (c : tie.After-number) → c .number .result ≡ judge fileRules (c .before .before .before .args .s .now) .number
+looked c = c .number .ensures ∙ ap (λ m. m .number) (c .before .judged .ensures)
+
 returns : tie.Need-returns
 returns c =
-    let n = c .before .before in
-    let s = n .before .before .before .args .s .now in
-    let w = n .before .judged .ensures in
-    let e = w ∙ sym (read-stop s (λ z. c .before .if1 .taken (n .number .ensures ∙ ap (λ m. m .number) w ∙ z))) in
-    (e, c .no-record .ensures ∙ sym (record-refused s (λ z. c .before .if1 .taken (n .number .ensures ∙ ap (λ m. m .number) e ∙ z))))
+    let at = c .before in
+    let n = at .before in
+    let e = n .before .judged .ensures ∙ sym (read-stop (n .before .before .before .args .s .now) (λ z. omega (arith, looked n, at .if1 .taken))) in
+    reads-nothing _ _ _ (c .refused .ensures) e (λ z. omega (arith, n .number .ensures, at .if1 .taken))
 
--- the bytes are accepted, past the first test
+-- past the first test the bytes are accepted
 accepted : (c : tie.Else1) → judge fileRules (c .before .before .before .before .args .s .now) .number ≡ 0
-accepted c = sym (ap (λ n. n .number) (c .before .before .judged .ensures)) ∙ sym (c .before .number .ensures) ∙ c .if1 .left
+accepted c = omega (arith, looked (c .before), c .if1 .left)
 
 record-of-requires : tie.Need-record-of-requires
 record-of-requires c κs = judged-length (c .before .before .before .before .args .s .now) (accepted c)
@@ -28,19 +31,18 @@ record-of-requires c κs = judged-length (c .before .before .before .before .arg
 reported : (c : tie.After-number2) → handed (c .before .set-up .result .answer) ≡ readReport (c .before .before .before .before .before .before .before .args .s .now)
 reported c =
     let e = c .before .before .before in
-    c .before .set-up .ensures .0 ∙ ap setUpReport (c .before .before .record-of .ensures) ∙ sym (read-on (e .before .before .before .before .args .s .now) (accepted e))
+    c .before .set-up .ensures .number ∙ ap setUpReport (c .before .before .record-of .ensures) ∙ sym (read-on (e .before .before .before .before .args .s .now) (accepted e))
 
 returns-2 : tie.Need-returns-2
 returns-2 c =
-    let n = c .before .before in
-    let s = n .before .before .before .before .before .before .before .args .s .now in
-    (reported n, c .no-record2 .ensures ∙ sym (record-refused s (λ q. c .before .if2 .taken (n .number2 .ensures ∙ ap (λ m. m .number) (reported n) ∙ q))))
+    let at = c .before in
+    let n = at .before in
+    reads-nothing _ _ _ (c .refused2 .ensures) (reported n) (λ z. omega (arith, n .number2 .ensures, at .if2 .taken))
 
 returns-3 : tie.Need-returns-3
 returns-3 c =
     let n = c .before in
-    let s = n .before .before .before .before .before .before .before .args .s .now in
-    (reported n, n .before .before .record-of .ensures ∙ sym (record-read s (sym (ap (λ m. m .number) (reported n)) ∙ sym (n .number2 .ensures) ∙ c .if2 .left)))
+    reads-record _ _ (reported n) (omega (arith, n .number2 .ensures, c .if2 .left)) (n .before .before .record-of .ensures)
 
 pub read-spec : {M : Type 1} → statement M
 read-spec =

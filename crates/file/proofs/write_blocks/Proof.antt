@@ -1,25 +1,36 @@
--- The three blocks fill the file, one after another.
-use mathlib.Core.Path.{_∙_}
+-- Each block is written after those before it, and together they fill the file.
+use mathlib.Core.Path.{refl}
 use borrow.Author.Needs.{needs}
-use Rattle.circuit.specs.File.{fileOf}
-use Rattle.file.proofs.Fields.{blocks-placed}
+use mathlib.Core.List.{[], _∷_, map}
+use Rattle.circuit.specs.File.{heading, rowBytes, columnFields, concat, blocksOf, fileOf}
+use Rattle.laws.proofs.Sizes.{sized}
+use Rattle.file.proofs.Placed.{entered-whole}
+use Rattle.file.proofs.Sealed.{file-none, file-more}
+use Rattle.file.proofs.Sizes.{blocks-roomy}
 use Rattle.file.proofs.write_blocks.Statement.{statement}
 use Rattle.file.proofs.write_blocks.Tie as tie
 
 returns : tie.Need-returns
-unfolding fileOf
+unfolding fileOf blocksOf
 returns c =
     let third = c .before .before in
-    let second = third .before .before .before .before .before in
-    let first = second .before .before .before .before .before in
-    let made = first .before .before .before in
-    let columns = made .column-block in
-    let rows = made .before .row-block in
-    let heading = made .before .before .heading-block in
-    let start = made .before .before .before .before .before .before in
-    blocks-placed (start .args .out .now) (heading .result) (rows .result) (columns .result) _ _ _ (search needs) (search needs) (search needs) (search needs)
-    (first .place .ensures) (second .place2 .ensures) (third .place3 .ensures)
-    ∙ rw (heading .ensures, rows .ensures, columns .ensures)
+    let columns = third .before in
+    let second = columns .before .before .before .before in
+    let rows = second .before in
+    let first = rows .before .before .before .before in
+    let top = first .before in
+    let start = top .before .before .before .before .before in
+    let r = start .args .r in
+    let roomy = blocks-roomy r (sized r _ (start .good .0)) in
+    let h = heading r in
+    let ws = concat (map rowBytes (r .rows)) in
+    let cs = concat (map columnFields (r .columns)) in
+    let out = start .args .out .now in
+    let one = file-more [] 0 h (top .heading-block .result) out (first .write .last .0) (file-none out) refl (roomy .0) (top .heading-block .ensures) (first .write .ensures) in
+    let two = file-more (h ∷ []) 1 ws (rows .row-block .result) (first .write .last .0) (second .write2 .last .0) one refl (roomy .1 .0) (rows .row-block .ensures) (second .write2 .ensures) in
+    let all =
+    file-more (h ∷ ws ∷ []) 2 cs (columns .column-block .result) (second .write2 .last .0) (third .write3 .last .0) two refl (roomy .1 .1 .0) (columns .column-block .ensures) (third .write3 .ensures) in
+    entered-whole all (start .pre)
 
 pub write-blocks-spec : {M : Type 1} → statement M
 write-blocks-spec =
@@ -28,11 +39,8 @@ write-blocks-spec =
     (λ c κs. search needs)
     (λ c κs. search needs)
     (λ c κs. search needs)
-    (λ c. search needs)
     (λ c κs. search needs)
-    (λ c. search needs)
     (λ c κs. search needs)
-    (λ c. search needs)
     (λ c κs. search needs)
     (λ c. search needs)
     returns)

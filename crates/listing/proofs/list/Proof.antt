@@ -1,70 +1,56 @@
 -- `list` meets its contract: a refusal's line where reading hands back a number, and else the lines of the record that it hands back.
+use Prim.Native.Nat.{ℕ}
 use borrow.Author.Needs.{needs}
 use native.Mathlib.Omega.{arith}
 use mathlib.Core.Path.{_≡_, sym, ap, _∙_}
-use Rattle.circuit.specs.File.{readReport}
+use mathlib.Core.List.{List}
+use Rattle.circuit.specs.File.{readReport, recordOf}
 use Rattle.circuit.specs.Text.{text}
-use Rattle.listing.proofs.Texts.{puts-first}
-use Rattle.listing.proofs.Rows.{refused-line}
-use Rattle.listing.proofs.Reading.{set-up-accepts, record-read, listing-accepted, listing-refused}
+use Rattle.circuit.specs.Listing.{acceptedLines, refusedLine}
+use Rattle.file.proofs.Judged.{record-read}
+use Rattle.listing.specs.Lines.{numbersLine}
+use Rattle.listing.proofs.Reading.{set-up-accepts, listing-accepted, listing-refused, lists}
 use Rattle.listing.proofs.list.Statement.{statement}
 use Rattle.listing.proofs.list.Tie as tie
 
-read-requires : tie.Need-read-requires
-read-requires c κs = search needs
+-- the file's bytes, and the number that reading hands back of them
+abbrev bytes : tie.After-number → List ℕ
+bytes c = c .before .before .before .args .s .now
 
-number-requires : tie.Need-number-requires
-number-requires c κs = search needs
+number : (c : tie.After-number) → c .number .result ≡ readReport (bytes c) .number
+number c = c .number .ensures ∙ ap (λ n. n .number) (c .before .read .ensures .number)
 
-place-requires : tie.Need-place-requires
-place-requires c κs = search needs
-
-slice-aggregate-put-numbers : tie.Need-slice-aggregate-put-numbers
-slice-aggregate-put-numbers c = search needs
-
-slice-aggregate-put-numbers-2 : tie.Need-slice-aggregate-put-numbers-2
-slice-aggregate-put-numbers-2 c = search needs
-
-put-numbers-requires : tie.Need-put-numbers-requires
-put-numbers-requires c κs = search needs
+-- ---- refused
 
 returns : tie.Need-returns
-unfolding text
+unfolding refusedLine numbersLine text
 returns c =
-    let s = c .before .before .before .before .before .before .before .before .before .args .s .now in
-    let read = c .before .before .before .before .before .before .before .read .ensures in
-    let number : c .before .before .before .before .before .before .number .result ≡ readReport s .number = c .before .before .before .before .before .before .number .ensures ∙ ap (λ n. n .number) (read .0) in
-    let place : c .before .before .before .before .place .result ≡ readReport s .place = c .before .before .before .before .place .ensures ∙ ap (λ n. n .place) (read .0) in
-    rw (listing-refused s (λ e. c .before .before .before .before .before .if1 .taken (number ∙ e)), refused-line (readReport s), ← number, ← place) (puts-first (c .put-numbers .ensures))
+    let place = c .before .before .before .before in
+    let read = place .before .before in
+    let at : place .place .result ≡ readReport (bytes read) .place = place .place .ensures ∙ ap (λ n. n .place) (read .before .read .ensures .number) in
+    lists (bytes read) (listing-refused (bytes read) (read .number .result) (place .place .result) (number read) at (place .before .if1 .taken)) (c .put-numbers .ensures)
 
-set-up-requires : tie.Need-set-up-requires
-set-up-requires c κs = search needs
+-- ---- accepted
+
+accepted : (c : tie.Else1) → readReport (bytes (c .before)) .number ≡ 0
+accepted c = sym (number (c .before)) ∙ c .if1 .left
+
+circuit : (c : tie.Else1) → c .before .before .read .result .«record» ≡ recordOf (bytes (c .before))
+circuit c = c .before .before .read .ensures .circuit ∙ record-read (bytes (c .before)) (accepted c)
 
 put-accepted-requires : tie.Need-put-accepted-requires
 put-accepted-requires c κs =
-    let s = c .before .before .before .before .before .before .before .before .args .s .now in
-    let read = c .before .before .before .before .before .before .read .ensures in
-    let zero : readReport s .number ≡ 0 = ap (λ n. n .number) (sym (read .0)) ∙ sym (c .before .before .before .before .before .number .ensures) ∙ c .before .before .before .before .if1 .left in
-    (rw (read .1, record-read s zero) (set-up-accepts s zero), c .before .before .set-up .ensures .1, omega arith)
+    let made = c .before .before in
+    let read = made .before .before in
+    (rw (circuit read) (set-up-accepts (bytes (read .before)) (accepted read)), made .set-up .ensures .rows, omega arith)
 
 returns-2 : tie.Need-returns-2
 returns-2 c =
-    let s = c .before .before .before .before .before .before .before .before .before .args .s .now in
-    let read = c .before .before .before .before .before .before .before .read .ensures in
-    let zero : readReport s .number ≡ 0 = ap (λ n. n .number) (sym (read .0)) ∙ sym (c .before .before .before .before .before .before .number .ensures) ∙ c .before .before .before .before .before .if1 .left in
-    rw (listing-accepted s zero, ← record-read s zero, ← read .1) (puts-first (c .put-accepted .ensures))
+    let read = c .before .before .before .before .before in
+    lists (bytes (read .before)) (ap acceptedLines (circuit read) ∙ listing-accepted (bytes (read .before)) (accepted read)) (c .put-accepted .ensures)
 
 pub list-spec : {M : Type 1} → statement M
 list-spec =
     tie.close
-    (tie.spec
-    read-requires
-    number-requires
-    place-requires
-    slice-aggregate-put-numbers
-    slice-aggregate-put-numbers-2
-    put-numbers-requires
-    returns
-    set-up-requires
-    put-accepted-requires
-    returns-2)
+    (tie.spec (λ c κs. search needs) (λ c κs. search needs) (λ c κs. search needs) (λ c. search needs) (λ c. search needs) (λ c κs. search needs)
+    returns (λ c κs. search needs) put-accepted-requires returns-2)

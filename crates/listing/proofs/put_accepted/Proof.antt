@@ -1,62 +1,31 @@
--- `put_accepted` meets its contract: the first line, and the rows' lines after it. At most 31 rows of at most 28 bytes leave room.
+-- `put_accepted` meets its contract: the first line, and the rows' lines after it. No record that set-up accepts has too many rows for the room.
 use borrow.Author.Needs.{needs}
 use native.Mathlib.Omega.{arith}
+use mathlib.Core.List.{append-assoc}
 use Rattle.circuit.specs.Text.{text}
-use Rattle.listing.specs.Lines.{numbersLine}
-use Rattle.listing.proofs.Texts.{puts-then}
-use Rattle.listing.proofs.Lengths.{numbers-short}
-use Rattle.listing.proofs.Rows.{few-rows, accepted-lines}
+use Rattle.circuit.specs.Listing.{acceptedLines}
+use Rattle.listing.specs.Lines.{numbersLine, rowLines}
+use Rattle.listing.proofs.Texts.{puts-most, puts-as, puts-then}
+use Rattle.listing.proofs.Rows.{few-rows}
 use Rattle.listing.proofs.put_accepted.Statement.{statement}
 use Rattle.listing.proofs.put_accepted.Tie as tie
 
-slice-aggregate-put-numbers : tie.Need-slice-aggregate-put-numbers
-slice-aggregate-put-numbers c = search needs
-
-cast-put-numbers : tie.Need-cast-put-numbers
-cast-put-numbers c = search needs
-
-slice-aggregate-put-numbers-2 : tie.Need-slice-aggregate-put-numbers-2
-slice-aggregate-put-numbers-2 c = search needs
-
-cast-put-numbers-2 : tie.Need-cast-put-numbers-2
-cast-put-numbers-2 c = search needs
-
-put-numbers-requires : tie.Need-put-numbers-requires
-put-numbers-requires c κs = search needs
-
-cast-put-rows : tie.Need-cast-put-rows
-cast-put-rows c = search needs
-
 put-rows-requires : tie.Need-put-rows-requires
-unfolding text
 put-rows-requires c κs =
-    let s = c .before .before .before .before .before .before .before .before .before .before .before .before in
-    let few = few-rows (s .args .r) (s .pre .0) in
-    let first = numbers-short (text "rows ") (s .args .r .count) (text " tap ") (s .args .r .tap) in
-    (few, omega arith)
-
-same-length : tie.Need-same-length
-same-length c = search needs
+    let first = c .before .before .before in
+    let start = first .before .before .before .before .before .before .before in
+    (start .pre .0, start .pre .1, omega (arith, few-rows (start .args .r) (start .pre .0)))
 
 returns : tie.Need-returns
-unfolding text
+unfolding acceptedLines numbersLine rowLines text
 returns c =
-    let s = c .before .before .before .before .before .before .before .before .before .before .before .before .before .before .before in
-    let p = c .before .before .before .before .before .before .before .put-numbers in
-    let first = numbers-short (text "rows ") (s .args .r .count) (text " tap ") (s .args .r .tap) in
-    rw (accepted-lines (s .args .r) (s .pre .0), ← s .pre .1)
-    (puts-then {t = numbersLine (text "rows ") (s .args .r .count) (text " tap ") (s .args .r .tap)} (omega arith) (p .ensures) (c .before .before .put-rows .ensures))
+    let first = c .before .before .before .before .before .before in
+    let start = first .before .before .before .before .before .before .before in
+    let r = start .args .r in
+    puts-most (puts-as (puts-then {t = numbersLine (text "rows ") (r .count) (text " tap ") (r .tap)} (first .put-numbers .ensures) (c .before .before .put-rows .ensures)) (simp append-assoc)) (omega (arith, few-rows (start .args .r) (start .pre .0)))
 
 pub put-accepted-spec : {M : Type 1} → statement M
 put-accepted-spec =
     tie.close
-    (tie.spec
-    slice-aggregate-put-numbers
-    cast-put-numbers
-    slice-aggregate-put-numbers-2
-    cast-put-numbers-2
-    put-numbers-requires
-    cast-put-rows
-    put-rows-requires
-    same-length
-    returns)
+    (tie.spec (λ c. search needs) (λ c. search needs) (λ c. search needs) (λ c. search needs) (λ c κs. search needs) put-rows-requires
+    (λ c. search needs) returns)

@@ -3,7 +3,7 @@ use mathlib.Core.Path.{sym, ap₂, _∙_}
 use borrow.Author.Needs.{needs}
 use lib.Dec.{eqb}
 use Rattle.circuit.specs.Numbers.{unless}
-use Rattle.circuit.specs.Run.{storedWaves, lengths, call}
+use Rattle.circuit.specs.Run.{lengthsRule, call}
 use Rattle.setup.specs.Answers.{numbered}
 use Rattle.engine.proofs.Refusing.{by-set-up, by-waves, by-lengths}
 use Rattle.engine.proofs.check.refusal.Statement.{statement}
@@ -15,7 +15,6 @@ returns c xs os m n =
     by-set-up (call (at .args .r) (at .args .state .waves) xs os) (at .args .set) (at .pre) (λ e. c .if1 .taken (c .before .number .ensures ∙ e))
 
 returns-2 : tie.Need-returns-2
-unfolding storedWaves
 returns-2 c xs os m n =
     let set = c .before .before .before .before in
     let at = set .before in
@@ -23,7 +22,7 @@ returns-2 c xs os m n =
     (c .before .before .stored-waves .result) (c .before .before .stored-waves .ensures) (λ e. c .if2 .taken (c .before .number2 .ensures ∙ e))
 
 returns-3 : tie.Need-returns-3
-unfolding storedWaves lengths
+unfolding lengthsRule
 returns-3 c xs os m n =
     let waves = c .before .before .before in
     let set = waves .before .before in

@@ -8,11 +8,11 @@ use mir.Syntax.{w32}
 use mir.Val.{SFits, toZ, ofZ}
 use mir.Facts.{toZ-ofZ}
 use borrow.Author.Needs.{needs}
-use lib.ListN.{getD}
-use lib.IntN.{ℤ, pos}
+use lib.IntN.{ℤ}
 use Rattle.circuit.specs.Numbers.{handed, passes, lowest}
 use Rattle.circuit.specs.Record.{rowLimit, partAt}
-use Rattle.circuit.specs.Run.{soundWave, storedWaves}
+use Rattle.circuit.specs.Sample.{storedAt}
+use Rattle.circuit.specs.Run.{soundWave, storedWavesRule}
 use Rattle.circuit.specs.declared.Record.{Record}
 use Rattle.laws.proofs.Counting.{lowest-step}
 use Rattle.setup.proofs.Chain.{stops, goes-through}
@@ -20,10 +20,10 @@ use Rattle.engine.proofs.check.stored_waves.Statement.{statement}
 use Rattle.engine.proofs.check.stored_waves.Tie as tie
 
 abbrev fault : Record → List ℤ → ℕ → Bool
-fault r ws j = not (soundWave (partAt r j) (getD ws j (pos 0)))
+fault r ws j = not (soundWave (partAt r j) (storedAt ws j))
 
 -- the test is made of the wave's bits, read back
-tested : (r : Record) (ws : List ℤ) (j : ℕ) (sound : Bool) → SFits w32 (getD ws j (pos 0)) → sound ≡ soundWave (partAt r j) (toZ w32 (ofZ w32 (getD ws j (pos 0))))
+tested : (r : Record) (ws : List ℤ) (j : ℕ) (sound : Bool) → SFits w32 (storedAt ws j) → sound ≡ soundWave (partAt r j) (toZ w32 (ofZ w32 (storedAt ws j)))
     → fault r ws j ≡ not sound
 tested r ws j sound fits e = ap not (sym (e ∙ ap (soundWave (partAt r j)) (toZ-ofZ fits)))
 
@@ -38,7 +38,7 @@ unfolding lowest
 loop-holds c = (omega arith, refl)
 
 returns : tie.Need-returns Inv-loop μ-loop
-unfolding handed storedWaves
+unfolding handed storedWavesRule
 returns c =
     let at = c .before .before .before .before .before in
     let r = at .before .args .t1 in
@@ -55,7 +55,7 @@ loop-again c =
     (omega arith, lowest-step (fault r ws) j (at .loop .inv .1) (tested r ws j _ (search needs) (c .before .sound-wave .ensures) ∙ c .if1 .left))
 
 returns-2 : tie.Need-returns-2 Inv-loop μ-loop
-unfolding handed storedWaves
+unfolding handed storedWavesRule
 returns-2 c =
     let at = c .before in
     goes-through 12 (fault (at .before .args .t1) (at .before .args .t2 .waves)) rowLimit (at .loop .j) (at .loop .inv .1) (at .loop .inv .0) (c .loop-test .left)

@@ -1,26 +1,27 @@
 -- `curve::between` hands `straight` the rise and the run of two neighbouring columns.
 use mathlib.Core.Path.{_∙_}
-use Rattle.engine.proofs.Slope.{gap-fits, gap-reads, limit-reads, returned, spans-sloped}
+use Rattle.engine.proofs.Limits.{difference-fits, difference-reads, limit-reads, returned}
+use Rattle.engine.proofs.Slope.{spans-sloped}
 use Rattle.engine.proofs.curve.between.Statement.{statement}
 use Rattle.engine.proofs.curve.between.Tie as tie
 
 sub-straight : tie.Need-sub-straight
-sub-straight c = gap-fits (c .pre .reaching) (c .pre .high)
+sub-straight c = difference-fits (c .pre .reaching) (c .pre .high)
 
 sub-straight-2 : tie.Need-sub-straight-2
-sub-straight-2 c = gap-fits (c .pre .to) (c .pre .from)
+sub-straight-2 c = difference-fits (c .pre .to) (c .pre .from)
 
 straight-requires : tie.Need-straight-requires
 straight-requires c κs =
     let p = c .pre in
-    rw (gap-reads (p .reaching) (p .high), gap-reads (p .to) (p .from), limit-reads (p .from), limit-reads (p .high), limit-reads (p .sent))
+    rw (difference-reads (p .reaching) (p .high), difference-reads (p .to) (p .from), limit-reads (p .from), limit-reads (p .high), limit-reads (p .sent))
     (spans-sloped p)
 
 returns : tie.Need-returns
 returns c =
     let p = c .before .pre in
     let line =
-    rw (gap-reads (p .reaching) (p .high), gap-reads (p .to) (p .from), limit-reads (p .from), limit-reads (p .high), limit-reads (p .sent))
+    rw (difference-reads (p .reaching) (p .high), difference-reads (p .to) (p .from), limit-reads (p .from), limit-reads (p .high), limit-reads (p .sent))
     at (c .straight .ensures) in
     returned (c .straight .result) (c .straight .ok) ∙ line
 

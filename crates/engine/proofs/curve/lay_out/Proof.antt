@@ -8,6 +8,7 @@ use lib.IntN.{pos}
 use mir.Syntax.{w32}
 use mir.Val.{SFits}
 use Rattle.circuit.specs.declared.Column.{Column}
+use Rattle.circuit.specs.Record.{columnLimit}
 use Rattle.engine.specs.Curve.{across, back}
 use Rattle.engine.proofs.Wide.{widened, wide-same}
 use Rattle.engine.proofs.Copying.{Copied, copied-none, copied-more, copied-all}
@@ -15,12 +16,12 @@ use Rattle.engine.proofs.curve.lay_out.Statement.{statement}
 use Rattle.engine.proofs.curve.lay_out.Tie as tie
 
 abbrev Inv-loop : tie.InvT-loop
-Inv-loop columns xs₀ ys₀ i₀ xs ys i = (i ≤ 62) × (Copied across columns xs i × Copied back columns ys i)
+Inv-loop columns xs₀ ys₀ i₀ xs ys i = (i ≤ columnLimit) × (Copied across columns xs i × Copied back columns ys i)
 
 abbrev μ-loop : tie.MeasureT-loop
-μ-loop columns xs₀ ys₀ i₀ xs ys i = 62 - i
+μ-loop columns xs₀ ys₀ i₀ xs ys i = columnLimit - i
 
-many : (c : tie.Start Inv-loop μ-loop) → length (c .args .t1) ≡ 62
+many : (c : tie.Start Inv-loop μ-loop) → length (c .args .t1) ≡ columnLimit
 many c = search needs
 
 -- the column that a turn copies
@@ -37,40 +38,17 @@ y-fits c = search needs
 loop-holds : tie.Need-loop-holds Inv-loop μ-loop
 loop-holds c = (omega arith, (copied-none across (c .args .t1) _ (sym (many c)), copied-none back (c .args .t1) _ (sym (many c))))
 
-mul-c : tie.Need-mul-c Inv-loop μ-loop
-mul-c c = omega arith
-
-array-copy-out-c : tie.Need-array-copy-out-c Inv-loop μ-loop
-array-copy-out-c c = omega arith
-
 cast-x : tie.Need-cast-x Inv-loop μ-loop
 cast-x c = widened (x-fits c)
 
 cast-y : tie.Need-cast-y Inv-loop μ-loop
 cast-y c = widened (y-fits c)
 
-mul-xs : tie.Need-mul-xs Inv-loop μ-loop
-mul-xs c = omega arith
-
-array-set-from-xs : tie.Need-array-set-from-xs Inv-loop μ-loop
-array-set-from-xs c = omega arith
-
-mul-ys : tie.Need-mul-ys Inv-loop μ-loop
-mul-ys c = omega arith
-
-array-set-from-ys : tie.Need-array-set-from-ys Inv-loop μ-loop
-array-set-from-ys c = omega arith
-
-add-i : tie.Need-add-i Inv-loop μ-loop
-add-i c = omega arith
-
-loop-less : tie.Need-loop-less Inv-loop μ-loop
-loop-less c = omega arith
-
 loop-again : tie.Need-loop-again Inv-loop μ-loop
 loop-again c =
-    let s = c .before .before .before .before .before .before .before in
-    let l = c .before .before .before .before .before .before .loop in
+    let turn = c .before .before .before .before .before .before in
+    let s = turn .before in
+    let l = turn .loop in
     let more : l .i < length (s .args .t1) = omega (arith, many s) in (
       omega arith,
       (
@@ -93,15 +71,15 @@ lay-out-spec =
     Inv-loop
     μ-loop
     loop-holds
-    mul-c
-    array-copy-out-c
+    (λ c. omega arith)
+    (λ c. omega arith)
     cast-x
     cast-y
-    mul-xs
-    array-set-from-xs
-    mul-ys
-    array-set-from-ys
-    add-i
-    loop-less
+    (λ c. omega arith)
+    (λ c. omega arith)
+    (λ c. omega arith)
+    (λ c. omega arith)
+    (λ c. omega arith)
+    (λ c. omega arith)
     loop-again
     returns)

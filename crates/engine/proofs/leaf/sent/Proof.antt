@@ -14,9 +14,6 @@ enum-told c = search needs
 cast-t6 : tie.Need-cast-t6
 cast-t6 c = widened (c .before .before .fits .sample)
 
-enum-known-e : tie.Need-enum-known-e
-enum-known-e c = search needs
-
 -- a steady source's microvolts
 own : (c : tie.After-known-told) → SFits w32 (c .before .e .given .0 .1 .0)
 own c = record { sfits = c .known-told .given .1 .0 .1 }
@@ -24,32 +21,14 @@ own c = record { sfits = c .known-told .given .1 .0 .1 }
 cast-t7 : tie.Need-cast-t7
 cast-t7 c = widened (own c)
 
-enum-told-2 : tie.Need-enum-told-2
-enum-told-2 c = search needs
-
 cast-t8 : tie.Need-cast-t8
 cast-t8 c = widened (c .before .before .fits .stored)
-
-taken-requires : tie.Need-taken-requires
-taken-requires c κs = search needs
-
-enum-told-3 : tie.Need-enum-told-3
-enum-told-3 c = search needs
 
 cast-t10 : tie.Need-cast-t10
 cast-t10 c = widened (c .before .before .fits .stored)
 
-taken-requires-2 : tie.Need-taken-requires-2
-taken-requires-2 c κs = search needs
-
-enum-told-4 : tie.Need-enum-told-4
-enum-told-4 c = search needs
-
 cast-t12 : tie.Need-cast-t12
 cast-t12 c = widened (c .before .before .fits .stored)
-
-taken-requires-3 : tie.Need-taken-requires-3
-taken-requires-3 c κs = search needs
 
 returns : tie.Need-returns
 unfolding sends
@@ -77,17 +56,17 @@ sent-spec =
     (tie.spec
     enum-told
     cast-t6
-    enum-known-e
+    (λ c. search needs)
     cast-t7
-    enum-told-2
+    (λ c. search needs)
     cast-t8
-    taken-requires
-    enum-told-3
+    (λ c κs. search needs)
+    (λ c. search needs)
     cast-t10
-    taken-requires-2
-    enum-told-4
+    (λ c κs. search needs)
+    (λ c. search needs)
     cast-t12
-    taken-requires-3
+    (λ c κs. search needs)
     returns
     returns-2
     returns-3

@@ -1,5 +1,5 @@
 -- `adaptor_word` meets its contract: each part of the sum stands in its own bits.
-use Prim.Native.Nat.{ℕ, _+_, _*_, _/_, _%_, _<_}
+use Prim.Native.Nat.{ℕ, _+_, _*_, _/_, _%_, _<_, _^_}
 use native.Mathlib.Omega.{arith}
 use mathlib.Core.Path.{_≡_, refl}
 use Rattle.circuit.specs.declared.Join.{Join}
@@ -9,21 +9,6 @@ use Rattle.engine.specs.Plan.{joinOf, codeOf, linkOf, linkFor, Says}
 use borrow.Author.Needs.{needs}
 use Rattle.engine.proofs.plan.adaptor_word.Statement.{statement}
 use Rattle.engine.proofs.plan.adaptor_word.Tie as tie
-
-cast-children : tie.Need-cast-children
-cast-children c = search needs
-
-cast-children-2 : tie.Need-cast-children-2
-cast-children-2 c = search needs
-
-mul-children : tie.Need-mul-children
-mul-children c = search needs
-
-add-children : tie.Need-add-children
-add-children c = search needs
-
-code-of-requires : tie.Need-code-of-requires
-code-of-requires c κs = search needs
 
 bounded : (k : Join) → codeOf k < 2
 bounded Series = omega arith
@@ -39,7 +24,7 @@ packed a g f s =
     let b = bounded (a .join) in
     let w = a .first + 256 * a .second + 65536 * codeOf (a .join) + 4294967296 * g in
     let first : w % 256 ≡ a .first = omega arith in
-    let above : w / 256 ≡ a .second + 256 * codeOf (a .join) + 16777216 * g = omega arith in
+    let above : w / 256 ≡ a .second + 256 * codeOf (a .join) + 2 ^ 24 * g = omega arith in
     let second : w / 256 % 256 ≡ a .second = rw above (omega arith) in
     let higher : w / 65536 ≡ codeOf (a .join) + 65536 * g = omega arith in
     let code : w / 65536 % 256 ≡ codeOf (a .join) = rw higher (omega arith) in
@@ -52,9 +37,6 @@ mul-result c = omega (arith, bounded (c .before .before .before .args .a .join),
 add-result : tie.Need-add-result
 add-result c = omega (arith, bounded (c .before .before .before .args .a .join), c .code-of .ensures)
 
-mul-result-2 : tie.Need-mul-result-2
-mul-result-2 c = search needs
-
 add-result-2 : tie.Need-add-result-2
 add-result-2 c = omega (arith, bounded (c .before .before .before .args .a .join), c .code-of .ensures)
 
@@ -66,13 +48,13 @@ pub adaptor-word-spec : {M : Type 1} → statement M
 adaptor-word-spec =
     tie.close
     (tie.spec
-    cast-children
-    cast-children-2
-    mul-children
-    add-children
-    code-of-requires
+    (λ c. search needs)
+    (λ c. search needs)
+    (λ c. search needs)
+    (λ c. search needs)
+    (λ c κs. search needs)
     mul-result
     add-result
-    mul-result-2
+    (λ c. search needs)
     add-result-2
     returns)

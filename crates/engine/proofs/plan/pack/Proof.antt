@@ -11,18 +11,6 @@ use Rattle.engine.proofs.plan.pack.Tie as tie
 enum-told : tie.Need-enum-told
 enum-told c = search needs
 
-enum-known-part : tie.Need-enum-known-part
-enum-known-part c = search needs
-
-leaf-word-requires : tie.Need-leaf-word-requires
-leaf-word-requires c κs = search needs
-
-enum-known-part-2 : tie.Need-enum-known-part-2
-enum-known-part-2 c = search needs
-
-adaptor-word-requires : tie.Need-adaptor-word-requires
-adaptor-word-requires c κs = search needs
-
 any-ratio : (e : Element) (g w : ℕ) → Says (Leaf e) 0 w → Says (Leaf e) g w
 unfolding Says
 any-ratio (Resistor r) g w h = h
@@ -46,10 +34,10 @@ pack-spec =
     tie.close
     (tie.spec
     enum-told
-    enum-known-part
-    leaf-word-requires
-    enum-known-part-2
-    adaptor-word-requires
+    (λ c. search needs)
+    (λ c κs. search needs)
+    (λ c. search needs)
+    (λ c κs. search needs)
     returns
     returns-2
     returns-3)

@@ -4,15 +4,9 @@ use Rattle.engine.specs.Plan.{linkOf}
 use Rattle.engine.proofs.plan.unpack.Statement.{statement}
 use Rattle.engine.proofs.plan.unpack.Tie as tie
 
-join-of-requires : tie.Need-join-of-requires
-join-of-requires c κs = search needs
-
-cast-ratio : tie.Need-cast-ratio
-cast-ratio c = search needs
-
 returns : tie.Need-returns
 unfolding linkOf
 returns c = rw (c .join-of .ensures)
 
 pub unpack-spec : {M : Type 1} → statement M
-unpack-spec = tie.close (tie.spec join-of-requires cast-ratio returns)
+unpack-spec = tie.close (tie.spec (λ c κs. search needs) (λ c. search needs) returns)

@@ -1,87 +1,70 @@
 -- `unload` meets its contract. The loop's invariant: the stored waves of the rows below i are taken out.
 use Prim.Native.Nat.{ℕ, _-_, _≤_, _<_}
 use native.Mathlib.Omega.{arith}
-use mathlib.Core.Path.{_≡_, refl, _∙_}
+use mathlib.Core.Path.{_≡_, refl, sym, _∙_}
 use lib.ListN.{length, length-set}
-use lib.IntN.{pos}
+use lib.IntN.{ℤ, pos}
 use mir.Syntax.{w32, w64}
 use mir.Val.{SFits}
 use mir.Facts.{toZ-ofZ}
-use Rattle.whole.specs.Order.{Abs}
+use Rattle.whole.specs.Order.{Abs, abs-as}
 use Rattle.whole.specs.Signed.{zfits}
 use Rattle.circuit.specs.Curve.{waveLimit}
-use Rattle.engine.specs.Plan.{partIn, partTaken}
-use Rattle.engine.specs.Sweep.{waveAt}
+use Rattle.circuit.specs.Sample.{storedAt}
+use Rattle.circuit.specs.Record.{rowIn, rowLimit}
+use Rattle.engine.specs.Plan.{partTaken}
 use Rattle.engine.proofs.Fill.{filled-more}
-use Rattle.engine.proofs.Limits.{wave-fits}
+use Rattle.engine.proofs.Limits.{limit-reads}
 use Rattle.engine.proofs.play.unload.Statement.{statement}
 use Rattle.engine.proofs.play.unload.Tie as tie
 
 abbrev Inv-loop : tie.InvT-loop
 Inv-loop rows up state₀ i₀ state i =
-    (i ≤ 31) × (length (state .waves) ≡ 31) × ((j : ℕ) → j < i → waveAt (state .waves) j ≡ partTaken (partIn rows j) (waveAt up j))
+    (i ≤ rowLimit) × (length (state .waves) ≡ rowLimit) × ((j : ℕ) → j < i → storedAt (state .waves) j ≡ partTaken (rowIn rows j .part) (storedAt up j))
 
 abbrev μ-loop : tie.MeasureT-loop
-μ-loop rows up state₀ i₀ state i = 31 - i
+μ-loop rows up state₀ i₀ state i = rowLimit - i
 
 loop-holds : tie.Need-loop-holds Inv-loop μ-loop
 loop-holds c = (omega arith, refl, λ j l. absurd (omega arith))
 
-mul-row : tie.Need-mul-row Inv-loop μ-loop
-mul-row c = omega arith
+-- the wave that a turn takes out, and its limit
+module _ (c : tie.After-part-taken Inv-loop μ-loop) where
+  abbrev turn : tie.At-loop Inv-loop μ-loop
+  turn = c .before .before .before .before
 
-array-copy-out-row : tie.Need-array-copy-out-row Inv-loop μ-loop
-array-copy-out-row c = omega arith
+  abbrev start : tie.Start Inv-loop μ-loop
+  start = turn .before
 
-mul-t13 : tie.Need-mul-t13 Inv-loop μ-loop
-mul-t13 c = omega arith
+  abbrev wave : ℤ
+  wave = storedAt (start .args .t2) (turn .loop .i)
 
-array-copy-out-t19 : tie.Need-array-copy-out-t19 Inv-loop μ-loop
-array-copy-out-t19 c = omega arith
+  taken : c .part-taken .result .0 ≡ partTaken (rowIn (start .args .t1) (turn .loop .i) .part) wave
+  taken =
+      let sent : SFits w64 wave = record { sfits = c .before .t19 .given } in
+      rw (toZ-ofZ sent) at (c .part-taken .ensures)
 
-part-taken-requires : tie.Need-part-taken-requires Inv-loop μ-loop
-part-taken-requires c κs = tt
+  limited : Abs (c .part-taken .result .0) waveLimit
+  limited = abs-as (start .pre (turn .loop .i) (c .before .before .before .loop-test .taken)) (sym taken) (omega arith)
 
--- the wave that is taken out, and its limit
-taken : (c : tie.After-part-taken Inv-loop μ-loop) → let start = c .before .before .before .before .before in
-    c .part-taken .result .0 ≡ partTaken (partIn (start .args .t1) (c .before .before .before .before .loop .i)) (waveAt (start .args .t2) (c .before .before .before .before .loop .i))
-taken c =
-    let sent : SFits w64 (waveAt (c .before .before .before .before .before .args .t2) (c .before .before .before .before .loop .i)) = record { sfits = c .before .t19 .given } in
-    rw (toZ-ofZ sent) at (c .part-taken .ensures)
-
-limited : (c : tie.After-part-taken Inv-loop μ-loop) → Abs (c .part-taken .result .0) waveLimit
-limited c = rw (taken c) (c .before .before .before .before .before .pre (c .before .before .before .before .loop .i) (omega arith))
-
-short : (c : tie.After-part-taken Inv-loop μ-loop) → SFits w32 (c .part-taken .result .0)
-short c = let l = limited c in omega zfits
+  short : SFits w32 (c .part-taken .result .0)
+  short = let l = limited in omega zfits
 
 cast-stored : tie.Need-cast-stored Inv-loop μ-loop
-cast-stored c = rw (toZ-ofZ (wave-fits _ (limited (c .before .before)))) (short (c .before .before))
-
-mul-stored : tie.Need-mul-stored Inv-loop μ-loop
-mul-stored c = omega arith
-
-element-set-from-stored : tie.Need-element-set-from-stored Inv-loop μ-loop
-element-set-from-stored c = omega arith
-
-add-i : tie.Need-add-i Inv-loop μ-loop
-add-i c = omega arith
-
-loop-less : tie.Need-loop-less Inv-loop μ-loop
-loop-less c = omega arith
+cast-stored c = rw (limit-reads (limited (c .before .before))) (short (c .before .before))
 
 loop-again : tie.Need-loop-again Inv-loop μ-loop
 loop-again c =
-    let start = c .before .before .before .before .before .before .before in
-    let at-loop = c .before .before .before .before .before .before in
-    let ws = at-loop .loop .state .waves in
-    let i = at-loop .loop .i in
-    let v = c .before .before .part-taken .result .0 in
-    let size : length ws ≡ 31 = at-loop .loop .inv .1 in
-    rw (toZ-ofZ (wave-fits _ (limited (c .before .before))), toZ-ofZ (short (c .before .before))) (
+    let at = c .before .before in
+    let a = start at .args in
+    let ws = turn at .loop .state .waves in
+    let i = turn at .loop .i in
+    let v = at .part-taken .result .0 in
+    let size : length ws ≡ rowLimit = turn at .loop .inv .1 in
+    rw (limit-reads (limited at), toZ-ofZ (short at)) (
       omega arith,
       length-set ws i v ∙ size,
-      filled-more (λ j z. z ≡ partTaken (partIn (start .args .t1) j) (waveAt (start .args .t2) j)) (pos 0) ws i v (omega arith) (at-loop .loop .inv .2) (taken (c .before .before)),
+      filled-more (λ j z. z ≡ partTaken (rowIn (a .t1) j .part) (storedAt (a .t2) j)) (pos 0) ws i v (omega arith) (turn at .loop .inv .2) (taken at),
     )
 
 returns : tie.Need-returns Inv-loop μ-loop
@@ -94,15 +77,15 @@ unload-spec =
     Inv-loop
     μ-loop
     loop-holds
-    mul-row
-    array-copy-out-row
-    mul-t13
-    array-copy-out-t19
-    part-taken-requires
+    (λ c. omega arith)
+    (λ c. omega arith)
+    (λ c. omega arith)
+    (λ c. omega arith)
+    (λ c κs. tt)
     cast-stored
-    mul-stored
-    element-set-from-stored
-    add-i
-    loop-less
+    (λ c. omega arith)
+    (λ c. omega arith)
+    (λ c. omega arith)
+    (λ c. omega arith)
     loop-again
     returns)

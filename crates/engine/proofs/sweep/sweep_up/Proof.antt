@@ -1,13 +1,18 @@
--- `sweep_up` meets its contract. The loop's invariant: the waves are those after the first k adaptors.
-use Prim.Native.Nat.{_-_, _≤_, _<_}
+-- `sweep_up` meets its contract. The loop's invariant: the first k adaptors have sent their waves up.
+use Prim.Native.Nat.{ℕ, _+_, _-_, _≤_, _<_}
 use native.Mathlib.Numerals.{add-one}
 use native.Mathlib.Omega.{arith}
 use mathlib.Core.Path.{_≡_, refl, ap, _∙_}
-use lib.ListN.{set}
+use mathlib.Core.List.{List}
+use lib.IntN.{ℤ}
+use lib.ListN.{getD, set}
 use mir.Syntax.{w64}
 use mir.Val.{SFits}
 use mir.Facts.{toZ-ofZ}
-use Rattle.engine.specs.Sweep.{waveAt, raised, Raises, climbed}
+use Rattle.circuit.specs.Record.{rowLimit}
+use Rattle.circuit.specs.Sample.{storedAt}
+use Rattle.engine.specs.Sweep.{linkAt, raised, Raises, climbed}
+use Rattle.engine.specs.declared.plan.Link.{Link}
 use Rattle.engine.proofs.sweep.sweep_up.Statement.{statement}
 use Rattle.engine.proofs.sweep.sweep_up.Tie as tie
 
@@ -21,77 +26,70 @@ loop-holds : tie.Need-loop-holds Inv-loop μ-loop
 unfolding climbed
 loop-holds c = (omega arith, refl)
 
-element-copy-out-wide : tie.Need-element-copy-out-wide Inv-loop μ-loop
-element-copy-out-wide c = omega (arith, c .before .before .pre .few)
+-- ---- the adaptor at place k, as a turn has it
 
-wide-requires : tie.Need-wide-requires Inv-loop μ-loop
-wide-requires c κs = tt
+module _ (words adaptors : List ℕ) (k : ℕ) (ups : List ℤ) {row : ℕ} {l : Link} {us : List ℤ} (same : l ≡ linkAt words (getD adaptors k 0)) (listed : row ≡ getD adaptors k 0)
+    (so-far : us ≡ climbed words adaptors k ups) where
+  raises-at : Raises (linkAt words (getD adaptors k 0)) (getD adaptors k 0) (climbed words adaptors k ups) → Raises l row us
+  raises-at h = rw (same, listed, so-far) h
 
-inside : (c : tie.After-wide Inv-loop μ-loop) → c .wide .result < 31
-inside c = rw (c .wide .ensures) (c .before .before .before .before .pre .row (c .before .before .before .loop .k) (c .before .before .loop-test .taken))
+  raised-at : raised l row us ≡ climbed words adaptors (k + 1) ups
+  unfolding climbed
+  raised-at = rw (same, listed, so-far, add-one)
 
-mul-unpack : tie.Need-mul-unpack Inv-loop μ-loop
-mul-unpack c = omega (arith, inside c)
+-- ---- a turn: its adaptor's row, what stands there, and the waves that reach it
 
-element-copy-out-unpack : tie.Need-element-copy-out-unpack Inv-loop μ-loop
-element-copy-out-unpack c = inside c
+module _ (c : tie.After-wide Inv-loop μ-loop) where
+  abbrev turn : tie.At-loop Inv-loop μ-loop
+  turn = c .before .before .before
 
-unpack-requires : tie.Need-unpack-requires Inv-loop μ-loop
-unpack-requires c κs = tt
+  abbrev start : tie.Start Inv-loop μ-loop
+  start = turn .before
 
--- the adaptor of this turn, and the waves that reach it
-stage : (c : tie.After-unpack Inv-loop μ-loop) → Raises (c .unpack .result) (c .before .before .wide .result) (c .before .before .before .before .before .loop .up)
-stage c =
-    let at-loop = c .before .before .before .before .before in
-    rw (c .unpack .ensures, c .before .before .wide .ensures, at-loop .loop .inv .1) (c .before .before .before .before .before .before .pre .each (at-loop .loop .k) (c .before .before .before .before .loop-test .taken))
+  row-inside : c .wide .result < rowLimit
+  row-inside = rw (c .wide .ensures) (start .pre .row (turn .loop .k) (c .before .before .loop-test .taken))
 
-mul-t17 : tie.Need-mul-t17 Inv-loop μ-loop
-mul-t17 c = omega (arith, stage c .first)
+module _ (c : tie.After-unpack Inv-loop μ-loop) where
+  abbrev here : tie.After-wide Inv-loop μ-loop
+  here = c .before .before
 
-element-copy-out-t23 : tie.Need-element-copy-out-t23 Inv-loop μ-loop
-element-copy-out-t23 c = stage c .first
+  same-link : c .unpack .result ≡ linkAt (start here .args .words .now) (getD (start here .args .adaptors .now) (turn here .loop .k) 0)
+  same-link = c .unpack .ensures ∙ ap (linkAt (start here .args .words .now)) (here .wide .ensures)
 
-mul-t25 : tie.Need-mul-t25 Inv-loop μ-loop
-mul-t25 c = omega (arith, stage (c .before) .second)
+  stage : Raises (c .unpack .result) (here .wide .result) (turn here .loop .up)
+  stage = raises-at (start here .args .words .now) (start here .args .adaptors .now) (turn here .loop .k) (start here .args .up .now) same-link (here .wide .ensures) (turn here .loop .inv .1) (start here .pre .each (turn here .loop .k) (here .before .before .loop-test .taken))
 
-element-copy-out-t28 : tie.Need-element-copy-out-t28 Inv-loop μ-loop
-element-copy-out-t28 c = stage (c .before) .second
+module _ (c : tie.After-t28 Inv-loop μ-loop) where
+  abbrev link : tie.After-unpack Inv-loop μ-loop
+  link = c .before .before
 
-first : (c : tie.After-t28 Inv-loop μ-loop) → SFits w64 (waveAt (c .before .before .before .before .before .before .before .loop .up) (c .before .before .unpack .result .first))
-first c = record { sfits = c .before .t23 .given }
+  first : SFits w64 (storedAt (turn (here link) .loop .up) (link .unpack .result .first))
+  first = record { sfits = c .before .t23 .given }
 
-second : (c : tie.After-t28 Inv-loop μ-loop) → SFits w64 (waveAt (c .before .before .before .before .before .before .before .loop .up) (c .before .before .unpack .result .second))
-second c = record { sfits = c .t28 .given }
+  second : SFits w64 (storedAt (turn (here link) .loop .up) (link .unpack .result .second))
+  second = record { sfits = c .t28 .given }
 
 sends-up-requires : tie.Need-sends-up-requires Inv-loop μ-loop
-sends-up-requires c κs = rw (toZ-ofZ (first c), toZ-ofZ (second c)) (stage (c .before .before) .waves)
+sends-up-requires c κs = rw (toZ-ofZ (first c), toZ-ofZ (second c)) (stage (link c) .waves)
 
-mul-sent : tie.Need-mul-sent Inv-loop μ-loop
-mul-sent c = omega (arith, inside (c .before .before .before .before .before .before))
-
-element-set-from-sent : tie.Need-element-set-from-sent Inv-loop μ-loop
-element-set-from-sent c = inside (c .before .before .before .before .before .before)
-
-add-k : tie.Need-add-k Inv-loop μ-loop
-add-k c = omega arith
-
-loop-less : tie.Need-loop-less Inv-loop μ-loop
-loop-less c = omega arith
-
--- what this turn stores
-stored : (c : tie.After-struct-told Inv-loop μ-loop)
-    → let at-loop = c .before .before .before .before .before .before .before .before .before in let at-wide = c .before .before .before .before .before .before in
-    set (at-loop .loop .up) (at-wide .wide .result) (c .before .sends-up .result .0) ≡ raised (c .before .before .before .before .unpack .result) (at-wide .wide .result) (at-loop .loop .up)
+-- what the turn stores
+stored : (c : tie.After-sends-up Inv-loop μ-loop)
+    → let l = link (c .before) in
+    set (turn (here l) .loop .up) (here l .wide .result) (c .sends-up .result .0) ≡ raised (l .unpack .result) (here l .wide .result) (turn (here l) .loop .up)
 unfolding raised
 stored c =
-    ap (set (c .before .before .before .before .before .before .before .before .before .loop .up) (c .before .before .before .before .before .before .wide .result))
-    (c .before .sends-up .ensures ∙ rw (toZ-ofZ (first (c .before .before)), toZ-ofZ (second (c .before .before))))
+    let l = link (c .before) in
+    ap (set (turn (here l) .loop .up) (here l .wide .result)) (c .sends-up .ensures ∙ rw (toZ-ofZ (first (c .before)), toZ-ofZ (second (c .before))))
 
 loop-again : tie.Need-loop-again Inv-loop μ-loop
-unfolding climbed
 loop-again c =
-    let result : SFits w64 (c .before .sends-up .result .0) = record { sfits = c .struct-told .given .0 .1 } in
-    (omega arith, rw (toZ-ofZ result, stored c, c .before .before .before .before .unpack .ensures, c .before .before .before .before .before .before .wide .ensures, c .before .before .before .before .before .before .before .before .before .loop .inv .1, add-one))
+    let l = link (c .before .before) in
+    let t = turn (here l) in
+    let result : SFits w64 (c .before .sends-up .result .0) = record { sfits = c .struct-told .given .0 .1 } in (
+      omega arith,
+      ap (set (t .loop .up) (here l .wide .result)) (toZ-ofZ result) ∙ stored (c .before)
+          ∙ raised-at (start (here l) .args .words .now) (start (here l) .args .adaptors .now) (t .loop .k) (start (here l) .args .up .now) (same-link l) (here l .wide .ensures) (t .loop .inv .1),
+    )
 
 returns : tie.Need-returns Inv-loop μ-loop
 returns c =
@@ -105,19 +103,19 @@ sweep-up-spec =
     Inv-loop
     μ-loop
     loop-holds
-    element-copy-out-wide
-    wide-requires
-    mul-unpack
-    element-copy-out-unpack
-    unpack-requires
-    mul-t17
-    element-copy-out-t23
-    mul-t25
-    element-copy-out-t28
+    (λ c. omega (arith, c .before .before .pre .few))
+    (λ c κs. tt)
+    (λ c. omega (arith, row-inside c))
+    (λ c. row-inside c)
+    (λ c κs. tt)
+    (λ c. omega (arith, stage c .first))
+    (λ c. stage c .first)
+    (λ c. omega (arith, stage (c .before) .second))
+    (λ c. stage (c .before) .second)
     sends-up-requires
-    mul-sent
-    element-set-from-sent
-    add-k
-    loop-less
+    (λ c. omega (arith, row-inside (here (link (c .before .before)))))
+    (λ c. row-inside (here (link (c .before .before))))
+    (λ c. omega arith)
+    (λ c. omega arith)
     loop-again
     returns)

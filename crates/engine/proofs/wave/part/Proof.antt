@@ -7,15 +7,12 @@ use Rattle.circuit.specs.Sample.{h}
 use Rattle.engine.proofs.wave.part.Statement.{statement}
 use Rattle.engine.proofs.wave.part.Tie as tie
 
-cast-wide : tie.Need-cast-wide
-cast-wide c = search needs
-
 mul-result : tie.Need-mul-result
-mul-result c = let f = scaled-fits {w = w64} 24 38 (c .args .g) (c .args .t) (c .pre .0) (c .pre .1) (omega arith) in search (needs, signed)
+mul-result c = let f = scaled-fits {w = w64} 24 38 (c .args .g) (c .args .t) (c .pre .0) (omega (arith, c .pre .1 .bound)) (omega arith) in search (needs, signed)
 
 returns : tie.Need-returns
 unfolding h
-returns c = let f = scaled-fits {w = w64} 24 38 (c .args .g) (c .args .t) (c .pre .0) (c .pre .1) (omega arith) in search (needs, signed)
+returns c = let f = scaled-fits {w = w64} 24 38 (c .args .g) (c .args .t) (c .pre .0) (omega (arith, c .pre .1 .bound)) (omega arith) in search (needs, signed)
 
 pub part-spec : {M : Type 1} → statement M
-part-spec = tie.close (tie.spec cast-wide mul-result returns)
+part-spec = tie.close (tie.spec (λ c. search needs) mul-result returns)

@@ -1,5 +1,5 @@
 -- A number of k bytes. The loop goes down from the highest byte: n is the number of the bytes from i on, so below 2^56 within a turn.
-use mathlib.Core.Path.{_≡_}
+use mathlib.Core.Path.{_≡_, sym, ap, _∙_}
 use Prim.Native.Nat.{ℕ, _+_, _-_, _*_, _^_, _≤_, _<_}
 use native.Mathlib.Nat.{le-refl, one-le-pow}
 use native.Mathlib.Omega.{arith}
@@ -9,6 +9,7 @@ use lib.Seq.{slice}
 use Rattle.circuit.specs.File.{numberOf}
 use Rattle.file.specs.Held.{Bytes}
 use Rattle.file.proofs.Digits.{slice-none, slice-below, slice-step}
+use Rattle.file.proofs.Owned.{bytes-held}
 use Rattle.file.proofs.bytes.number.Statement.{statement}
 use Rattle.file.proofs.bytes.number.Tie as tie
 
@@ -21,34 +22,36 @@ abbrev μ-loop : tie.MeasureT-loop
 loop-holds : tie.Need-loop-holds Inv-loop μ-loop
 loop-holds c = (le-refl _, slice-none (c .args .k) (drop (c .args .at) (c .args .s .now)), one-le-pow (c .args .k - c .args .k) 256 (lit< tt))
 
-byte : (c : tie.After-shared-slice-known Inv-loop μ-loop) → Bytes (c .before .before .before .args .s .now)
-byte c i = c .shared-slice-known .given i .fits
+-- ---- in a turn
 
--- the number of the bytes from i on, in a turn
-below : (c : tie.After-shared-slice-known Inv-loop μ-loop) (i m : ℕ) → c .before .before .before .args .k - i ≤ m
-    → numberOf (slice i (c .before .before .before .args .k) (drop (c .before .before .before .args .at) (c .before .before .before .args .s .now))) < 256 ^ m
-below c i m h =
-    let a = c .before .before .before .args in
-    slice-below (a .s .now) (byte c) (a .at) (a .k) (c .before .before .before .pre .1) i m h
+abbrev head : tie.After-shared-slice-known Inv-loop μ-loop → tie.At-loop Inv-loop μ-loop
+head c = c .before .before
 
-small : (c : tie.After-shared-slice-known Inv-loop μ-loop) → c .before .before .loop .n < 256 ^ 7
-small c = rw (c .before .before .loop .inv .1) (below c (c .before .before .loop .i) 7 (omega arith))
+abbrev start : tie.After-shared-slice-known Inv-loop μ-loop → tie.Start Inv-loop μ-loop
+start c = head c .before
 
-cast-n : tie.Need-cast-n Inv-loop μ-loop
-cast-n c = omega (arith, byte c (c .before .before .before .args .at + (c .before .before .loop .i - 1)))
+byte : (c : tie.After-shared-slice-known Inv-loop μ-loop) → Bytes (start c .args .s .now)
+byte c = bytes-held (start c .args .s .now) (c .shared-slice-known .given)
 
-mul-n : tie.Need-mul-n Inv-loop μ-loop
-mul-n c = omega (arith, small c)
+-- the byte that is read
+next : (c : tie.After-shared-slice-known Inv-loop μ-loop) → getD (start c .args .s .now) (start c .args .at + (head c .loop .i - 1)) 0 < 256
+next c = byte c (start c .args .at + (head c .loop .i - 1))
 
-add-n : tie.Need-add-n Inv-loop μ-loop
-add-n c = omega (arith, small c, byte c (c .before .before .before .args .at + (c .before .before .loop .i - 1)))
+-- the number of the bytes from i on
+below : (c : tie.After-shared-slice-known Inv-loop μ-loop) (i m : ℕ) → start c .args .k - i ≤ m
+    → numberOf (slice i (start c .args .k) (drop (start c .args .at) (start c .args .s .now))) < 256 ^ m
+below c i m h = let a = start c .args in slice-below (a .s .now) (byte c) (a .at) (a .k) (start c .pre .1) i m h
+
+small : (c : tie.After-shared-slice-known Inv-loop μ-loop) → head c .loop .n < 256 ^ 7
+small c = rw (head c .loop .inv .1) (below c (head c .loop .i) 7 (omega arith))
 
 loop-again : tie.Need-loop-again Inv-loop μ-loop
 loop-again c =
-    let a = c .before .before .before .args in
-    let l = c .before .before .loop in
-    let e : getD (a .s .now) (a .at + (l .i - 1)) 0 + 256 * l .n ≡ numberOf (slice (l .i - 1) (a .k) (drop (a .at) (a .s .now))) =
-    rw (slice-step (a .s .now) (byte c) (a .at) (a .k) (c .before .before .before .pre .1) (l .i - 1) (l .i) (omega arith) (l .inv .0), l .inv .1) in
+    let a = start c .args in
+    let l = head c .loop in
+    let b = getD (a .s .now) (a .at + (l .i - 1)) 0 in
+    let e : b + 256 * l .n ≡ numberOf (slice (l .i - 1) (a .k) (drop (a .at) (a .s .now))) =
+    ap (λ (m : ℕ). b + 256 * m) (l .inv .1) ∙ sym (slice-step (a .s .now) (byte c) (a .at) (a .k) (start c .pre .1) (l .i - 1) (l .i) (omega arith) (l .inv .0)) in
     (omega arith, e, rw e (below c (l .i - 1) (a .k - (l .i - 1)) (le-refl _)))
 
 returns : tie.Need-returns Inv-loop μ-loop
@@ -59,4 +62,18 @@ returns c =
     (rw z at (l .inv .1), rw k at (l .inv .2))
 
 pub number-spec : {M : Type 1} → statement M
-number-spec = tie.close (tie.spec Inv-loop μ-loop loop-holds (λ c. omega arith) (λ c. omega arith) (λ c. omega arith) cast-n mul-n add-n (λ c. omega arith) loop-again returns)
+number-spec =
+    tie.close
+    (tie.spec
+    Inv-loop
+    μ-loop
+    loop-holds
+    (λ c. omega arith)
+    (λ c. omega arith)
+    (λ c. omega arith)
+    (λ c. omega (arith, next c))
+    (λ c. omega (arith, small c))
+    (λ c. omega (arith, small c, next c))
+    (λ c. omega arith)
+    loop-again
+    returns)

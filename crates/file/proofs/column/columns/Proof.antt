@@ -4,16 +4,17 @@ use Prim.Native.Nat.{_-_, _≤_, zero-le}
 use native.Mathlib.Omega.{arith}
 use lib.ListN.{length, take, length-set}
 use Rattle.circuit.specs.Counting.{table}
+use Rattle.circuit.specs.Record.{columnLimit}
 use Rattle.circuit.specs.File.{columnFrom, columnPlace}
 use Rattle.file.proofs.Tables.{table-more, table-whole}
 use Rattle.file.proofs.column.columns.Statement.{statement}
 use Rattle.file.proofs.column.columns.Tie as tie
 
 abbrev Inv-loop : tie.InvT-loop
-Inv-loop s columns₀ i₀ columns i = (i ≤ 62) × (length columns ≡ 62) × (take i columns ≡ table (λ k. columnFrom (columnPlace k) s) i)
+Inv-loop s columns₀ i₀ columns i = (i ≤ columnLimit) × (length columns ≡ columnLimit) × (take i columns ≡ table (λ k. columnFrom (columnPlace k) s) i)
 
 abbrev μ-loop : tie.MeasureT-loop
-μ-loop s columns₀ i₀ columns i = 62 - i
+μ-loop s columns₀ i₀ columns i = columnLimit - i
 
 loop-holds : tie.Need-loop-holds Inv-loop μ-loop
 unfolding table
@@ -28,7 +29,7 @@ loop-again c =
 returns : tie.Need-returns Inv-loop μ-loop
 returns c =
     let l = c .before .loop in
-    table-whole _ (l .columns) (l .i) 62 (omega arith) (l .inv .1) (l .inv .2)
+    table-whole _ (l .columns) (l .i) columnLimit (omega arith) (l .inv .1) (l .inv .2)
 
 pub columns-spec : {M : Type 1} → statement M
 columns-spec =

@@ -1,15 +1,13 @@
 -- Each field is placed in a new block, after those before it and the zeros between them.
-use mathlib.Core.Path.{_∙_}
-use native.Mathlib.Omega.{arith}
 use borrow.Author.Needs.{needs}
-use Rattle.file.proofs.Blocks.{begun-sealed}
+use Rattle.file.proofs.Placed.{begun-bytes}
 use Rattle.file.proofs.Fields.{heading-placed}
 use Rattle.file.proofs.heading.heading_block.Statement.{statement}
 use Rattle.file.proofs.heading.heading_block.Tie as tie
 
 returns : tie.Need-returns
 returns c =
-    let resistance = c .before .before in
+    let resistance = c .before in
     let rate = resistance .before .before .before in
     let width = rate .before .before .before .before in
     let kind = width .before .before .before .before in
@@ -17,11 +15,9 @@ returns c =
     let count = tap .before .before .before .before in
     let version = count .before .before .before .before in
     let bits = version .before .before in
-    c .seal .ensures
-    ∙ begun-sealed 0
+    begun-bytes
     (heading-placed (bits .before .before .args .r) _ _ _ _ _ _ _ _ _ (bits .before .kind-number .ensures) (bits .bits .ensures)
     (version .put .ensures) (count .put2 .ensures) (tap .put3 .ensures) (kind .put4 .ensures) (width .put5 .ensures) (rate .put6 .ensures) (resistance .put7 .ensures))
-    (omega arith)
 
 pub heading-block-spec : {M : Type 1} → statement M
 heading-block-spec =
@@ -47,6 +43,5 @@ heading-block-spec =
     (λ c. search needs)
     (λ c κs. search needs)
     (λ c. search needs)
-    (λ c κs. search needs)
     (λ c κs. search needs)
     returns)

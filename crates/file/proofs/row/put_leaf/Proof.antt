@@ -7,22 +7,36 @@ use Rattle.file.proofs.row.put_leaf.Statement.{statement}
 use Rattle.file.proofs.row.put_leaf.Tie as tie
 
 returns : tie.Need-returns
-returns c = rw (c .before .before .put-fields .ensures, c .before .before .before .bits .ensures, c .before .before .before .before .before .before .e .given .1)
+returns c =
+    let put = c .before .before in
+    let value = put .before in
+    rw (put .put-fields .ensures, value .bits .ensures, value .before .before .before .e .given .1)
 
 returns-2 : tie.Need-returns-2
-returns-2 c = rw (c .before .before .put-fields2 .ensures, c .before .before .before .bits2 .ensures, c .before .before .before .before .before .before .e2 .given .1)
+returns-2 c =
+    let put = c .before .before in
+    let value = put .before in
+    rw (put .put-fields2 .ensures, value .bits2 .ensures, value .before .before .before .e2 .given .1)
 
 returns-3 : tie.Need-returns-3
-returns-3 c = rw (c .before .before .put-fields3 .ensures, c .before .before .before .bits3 .ensures, c .before .before .before .before .before .before .e3 .given .1)
+returns-3 c =
+    let put = c .before .before in
+    let value = put .before in
+    rw (put .put-fields3 .ensures, value .bits3 .ensures, value .before .before .before .e3 .given .1)
 
 returns-4 : tie.Need-returns-4
-returns-4 c = rw (c .before .before .put-fields4 .ensures, c .before .before .before .bits4 .ensures, c .before .before .before .before .before .before .e4 .given .1)
+returns-4 c =
+    let put = c .before .before in
+    let value = put .before in
+    rw (put .put-fields4 .ensures, value .bits4 .ensures, value .before .before .before .e4 .given .1)
 
 returns-5 : tie.Need-returns-5
 returns-5 c =
-    let m = c .before .before .before .before .before .before .e5 .given .0 .1 .0 in
-    let f : SFits w32 m = search needs in
-    rw (c .before .before .put-fields5 .ensures, c .before .before .before .bits5 .ensures, toZ-ofZ w32 m f, c .before .before .before .before .before .before .e5 .given .1)
+    let put = c .before .before in
+    let value = put .before in
+    let given = value .before .before .before .e5 .given in
+    let f : SFits w32 (given .0 .1 .0) = search needs in
+    rw (put .put-fields5 .ensures, value .bits5 .ensures, toZ-ofZ w32 (given .0 .1 .0) f, given .1)
 
 pub put-leaf-spec : {M : Type 1} → statement M
 put-leaf-spec =

@@ -6,15 +6,22 @@ use Rattle.file.proofs.row.put_part.Tie as tie
 
 returns : tie.Need-returns
 unfolding bytes partFields
-returns c = rw (c .before .before .put-fields .ensures, c .before .before .before .before .enum-told .given .1)
+returns c =
+    let put = c .before .before in
+    rw (put .put-fields .ensures, put .before .before .enum-told .given .1)
 
 returns-2 : tie.Need-returns-2
 unfolding partFields
-returns-2 c = rw (c .before .before .put-leaf .ensures, c .before .before .before .before .before .part .given .1)
+returns-2 c =
+    let put = c .before .before in
+    rw (put .put-leaf .ensures, put .before .before .before .part .given .1)
 
 returns-3 : tie.Need-returns-3
 unfolding bytes partFields
-returns-3 c = rw (c .before .before .put-fields2 .ensures, c .before .before .before .join-number .ensures, c .before .before .before .before .before .before .part2 .given .1)
+returns-3 c =
+    let put = c .before .before in
+    let kind = put .before in
+    rw (put .put-fields2 .ensures, kind .join-number .ensures, kind .before .before .before .part2 .given .1)
 
 pub put-part-spec : {M : Type 1} → statement M
 put-part-spec =

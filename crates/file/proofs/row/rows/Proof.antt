@@ -4,16 +4,17 @@ use Prim.Native.Nat.{_-_, _≤_, zero-le}
 use native.Mathlib.Omega.{arith}
 use lib.ListN.{length, take, length-set}
 use Rattle.circuit.specs.Counting.{table}
+use Rattle.circuit.specs.Record.{rowLimit}
 use Rattle.circuit.specs.File.{rowFrom, rowPlace}
 use Rattle.file.proofs.Tables.{table-more, table-whole}
 use Rattle.file.proofs.row.rows.Statement.{statement}
 use Rattle.file.proofs.row.rows.Tie as tie
 
 abbrev Inv-loop : tie.InvT-loop
-Inv-loop s rows₀ j₀ rows j = (j ≤ 31) × (length rows ≡ 31) × (take j rows ≡ table (λ k. rowFrom (rowPlace k) s) j)
+Inv-loop s rows₀ j₀ rows j = (j ≤ rowLimit) × (length rows ≡ rowLimit) × (take j rows ≡ table (λ k. rowFrom (rowPlace k) s) j)
 
 abbrev μ-loop : tie.MeasureT-loop
-μ-loop s rows₀ j₀ rows j = 31 - j
+μ-loop s rows₀ j₀ rows j = rowLimit - j
 
 loop-holds : tie.Need-loop-holds Inv-loop μ-loop
 unfolding table
@@ -28,7 +29,7 @@ loop-again c =
 returns : tie.Need-returns Inv-loop μ-loop
 returns c =
     let l = c .before .loop in
-    table-whole _ (l .rows) (l .j) 31 (omega arith) (l .inv .1) (l .inv .2)
+    table-whole _ (l .rows) (l .j) rowLimit (omega arith) (l .inv .1) (l .inv .2)
 
 pub rows-spec : {M : Type 1} → statement M
 rows-spec =

@@ -1,9 +1,11 @@
 -- Each test is the one that the rule has.
 use borrow.Author.Needs.{needs}
+use Rattle.circuit.specs.File.{clearFile}
 use Rattle.file.proofs.rules.is_clear_file.Statement.{statement}
 use Rattle.file.proofs.rules.is_clear_file.Tie as tie
 
 returns : tie.Need-returns
+unfolding clearFile
 returns c =
     let rows = c .before .before in
     let gaps = rows .before .before in

@@ -1,52 +1,21 @@
 -- `put_join` meets its contract: each arm puts the name of its case.
 use borrow.Author.Needs.{needs}
+use native.Mathlib.Omega.{arith}
 use Rattle.circuit.specs.Text.{text}
+use Rattle.listing.proofs.Texts.{puts-most}
 use Rattle.listing.proofs.row.put_join.Statement.{statement}
 use Rattle.listing.proofs.row.put_join.Tie as tie
 
-enum-told : tie.Need-enum-told
-enum-told c = search needs
-
-slice-aggregate-put-text : tie.Need-slice-aggregate-put-text
-slice-aggregate-put-text c = search needs
-
-put-text-requires : tie.Need-put-text-requires
-put-text-requires c κs = search needs
-
-enum-told-2 : tie.Need-enum-told-2
-enum-told-2 c = search needs
-
-slice-aggregate-put-text-2 : tie.Need-slice-aggregate-put-text-2
-slice-aggregate-put-text-2 c = search needs
-
-put-text-requires-2 : tie.Need-put-text-requires-2
-put-text-requires-2 c κs = search needs
-
-same-length : tie.Need-same-length
-same-length c = search needs
-
 returns : tie.Need-returns
 unfolding text
-returns c = rw (c .before .before .before .before .before .enum-told .given .1) (c .before .before .put-text .ensures)
-
-same-length-2 : tie.Need-same-length-2
-same-length-2 c = search needs
+returns c = rw (c .before .before .before .before .before .enum-told .given .1) (puts-most (c .before .before .put-text .ensures) (omega arith))
 
 returns-2 : tie.Need-returns-2
 unfolding text
-returns-2 c = rw (c .before .before .before .before .before .enum-told2 .given .1) (c .before .before .put-text2 .ensures)
+returns-2 c = rw (c .before .before .before .before .before .enum-told2 .given .1) (puts-most (c .before .before .put-text2 .ensures) (omega arith))
 
 pub put-join-spec : {M : Type 1} → statement M
 put-join-spec =
     tie.close
-    (tie.spec
-    enum-told
-    slice-aggregate-put-text
-    put-text-requires
-    enum-told-2
-    slice-aggregate-put-text-2
-    put-text-requires-2
-    same-length
-    returns
-    same-length-2
-    returns-2)
+    (tie.spec (λ c. search needs) (λ c. search needs) (λ c κs. search needs) (λ c. search needs) (λ c. search needs) (λ c κs. search needs)
+    (λ c. search needs) returns (λ c. search needs) returns-2)

@@ -6,7 +6,7 @@ use mathlib.Core.Bool.{Bool, _&&_, _||_}
 use lib.Dec.{ltb}
 use borrow.Author.Needs.{needs}
 use Rattle.circuit.specs.Counting.{every}
-use Rattle.circuit.specs.Record.{columnAt, atOrigin}
+use Rattle.circuit.specs.Record.{columnLimit, columnAt, atOrigin}
 use Rattle.circuit.specs.declared.Record.{Record}
 use Rattle.laws.proofs.Counting.{every-step}
 use Rattle.setup.proofs.form.blank_columns.Statement.{statement}
@@ -16,10 +16,10 @@ abbrev right : Record → ℕ → Bool
 right r i = ltb i (r .width) || atOrigin (columnAt r i)
 
 abbrev Inv-loop : tie.InvT-loop
-Inv-loop r width ok₀ i₀ ok i = (i ≤ 62) × (ok ≡ every (right r) i)
+Inv-loop r width ok₀ i₀ ok i = (i ≤ columnLimit) × (ok ≡ every (right r) i)
 
 abbrev μ-loop : tie.MeasureT-loop
-μ-loop r width ok₀ i₀ ok i = 62 - i
+μ-loop r width ok₀ i₀ ok i = columnLimit - i
 
 loop-holds : tie.Need-loop-holds Inv-loop μ-loop
 unfolding every
@@ -35,7 +35,7 @@ returns : tie.Need-returns Inv-loop μ-loop
 returns c =
     let at = c .before in
     let r = at .before .args .t1 in
-    let e : at .loop .i ≡ 62 = omega arith in
+    let e : at .loop .i ≡ columnLimit = omega arith in
     at .loop .inv .1 ∙ ap (every (right r)) e
 
 pub blank-columns-spec : {M : Type 1} → statement M

@@ -6,7 +6,7 @@ use mathlib.Core.Bool.{Bool, Bool·beq, _&&_}
 use lib.Dec.{leb}
 use borrow.Author.Needs.{needs}
 use Rattle.circuit.specs.Counting.{every}
-use Rattle.circuit.specs.Record.{partAt, isBlank}
+use Rattle.circuit.specs.Record.{rowLimit, partAt, isBlank}
 use Rattle.circuit.specs.declared.Record.{Record}
 use Rattle.laws.proofs.Counting.{every-step}
 use Rattle.setup.proofs.form.blank_rows.Statement.{statement}
@@ -16,10 +16,10 @@ abbrev right : Record → ℕ → Bool
 right r j = Bool·beq (isBlank (partAt r j)) (leb (r .count) j)
 
 abbrev Inv-loop : tie.InvT-loop
-Inv-loop r count ok₀ j₀ ok j = (j ≤ 31) × (ok ≡ every (right r) j)
+Inv-loop r count ok₀ j₀ ok j = (j ≤ rowLimit) × (ok ≡ every (right r) j)
 
 abbrev μ-loop : tie.MeasureT-loop
-μ-loop r count ok₀ j₀ ok j = 31 - j
+μ-loop r count ok₀ j₀ ok j = rowLimit - j
 
 loop-holds : tie.Need-loop-holds Inv-loop μ-loop
 unfolding every
@@ -35,7 +35,7 @@ returns : tie.Need-returns Inv-loop μ-loop
 returns c =
     let at = c .before in
     let r = at .before .args .t1 in
-    let e : at .loop .j ≡ 31 = omega arith in
+    let e : at .loop .j ≡ rowLimit = omega arith in
     at .loop .inv .1 ∙ ap (every (right r)) e
 
 pub blank-rows-spec : {M : Type 1} → statement M

@@ -5,8 +5,8 @@ use mathlib.Core.Path.{_≡_, sym, ap, _∙_}
 use mathlib.Core.Bool.{Bool}
 use borrow.Author.Needs.{needs}
 use Rattle.circuit.specs.Numbers.{handed, unless}
-use Rattle.circuit.specs.Record.{lastRow}
-use Rattle.circuit.specs.SetUp.{fits, resistanceAt, curveResistance}
+use Rattle.circuit.specs.Record.{rowLimit, lastRow}
+use Rattle.circuit.specs.SetUp.{fits, resistanceAt, curveResistanceRule}
 use Rattle.setup.specs.Answers.{numbered}
 use Rattle.setup.proofs.Rows.{resistance-at}
 use Rattle.setup.proofs.port.curve_resistance.Statement.{statement}
@@ -18,15 +18,15 @@ fitting c =
     let start = c .before .before .before in
     let r = start .args .r in
     let h = start .pre in
-    let inside : r .count - 1 < 31 = omega (arith, h .counted .some, h .counted .rows) in
-    c .fits-top .ensures ∙ ap (fits (r .resistance)) (resistance-at r (h .lower) (start .args .t2) (h .filled) (r .count - 1) inside)
+    let inside : r .count - 1 < rowLimit = omega (arith, h .formed .some, h .formed .short) in
+    c .fits-top .ensures ∙ ap (fits (r .resistance)) (resistance-at r (h .lower) (start .args .t2) (h .all) (r .count - 1) inside)
 
 returns : tie.Need-returns
-unfolding handed curveResistance
+unfolding handed curveResistanceRule
 returns c = ap (λ (b : Bool). numbered 11 (unless b 0)) (sym (c .if1 .taken) ∙ fitting (c .before))
 
 returns-2 : tie.Need-returns-2
-unfolding handed curveResistance
+unfolding handed curveResistanceRule
 returns-2 c = ap (λ (b : Bool). numbered 11 (unless b 0)) (sym (c .if1 .left) ∙ fitting (c .before))
 
 pub curve-resistance-spec : {M : Type 1} → statement M

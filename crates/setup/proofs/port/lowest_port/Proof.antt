@@ -10,15 +10,15 @@ use lib.Ieee.{Float}
 use lib.ListN.{getD}
 use Rattle.circuit.specs.Numbers.{handed, passes, lowest}
 use Rattle.circuit.specs.Record.{partAt}
-use Rattle.circuit.specs.SetUp.{inRange, resistanceAt, portResistances, ratioFault, ratios}
+use Rattle.circuit.specs.SetUp.{inRange, resistanceAt, portResistanceRule, ratioFault, ratioAt, ratioRule}
 use Rattle.circuit.specs.declared.Prepared.{Prepared}
 use Rattle.circuit.specs.declared.Record.{Record}
 use Rattle.laws.proofs.Counting.{lowest-step, lowest-same}
 use Rattle.setup.specs.Answers.{numbered}
 use Rattle.setup.specs.Faults.{faultOf, portNumber, portRule}
-use Rattle.setup.specs.Rows.{past, Ready}
+use Rattle.setup.specs.Rows.{past, Filled}
 use Rattle.setup.specs.declared.port.PortFault.{PortFault}
-use Rattle.setup.specs.declared.port.PortFault.the-variants.{Range, Ratio}
+use Rattle.setup.specs.declared.port.PortFault.the-variants.{Resistance, Ratio}
 use Rattle.setup.proofs.Chain.{stops, goes-through}
 use Rattle.setup.proofs.Rows.{resistance-at, fault-at}
 use Rattle.setup.proofs.port.lowest_port.Statement.{statement}
@@ -33,14 +33,14 @@ Inv-loop f r rows count j₀ j = (j ≤ count) × (lowest (fault f r rows) j ≡
 abbrev μ-loop : tie.MeasureT-loop
 μ-loop f r rows count j₀ j = count - j
 
-same : (f : PortFault) (r : Record) (rows : List Prepared) → Ready r rows → lowest (fault f r rows) (r .count) ≡ portRule f r
-unfolding portResistances ratios
-same Range r rows h =
-    lowest-same (fault Range r rows) (λ j. not (inRange (resistanceAt r j))) (r .count)
-    (λ j l. ap (λ (R : Float). not (inRange R)) (resistance-at r (h .lower) rows (h .filled) j (omega (arith, h .counted .rows))))
+same : (f : PortFault) (r : Record) (rows : List Prepared) → Filled r rows → lowest (fault f r rows) (r .count) ≡ portRule f r
+unfolding portResistanceRule ratioRule
+same Resistance r rows h =
+    lowest-same (fault Resistance r rows) (λ j. not (inRange (resistanceAt r j))) (r .count)
+    (λ j l. ap (λ (R : Float). not (inRange R)) (resistance-at r (h .lower) rows (h .all) j (omega (arith, h .formed .short))))
 same Ratio r rows h =
-    lowest-same (fault Ratio r rows) (λ j. ratioFault r j (partAt r j)) (r .count)
-    (λ j l. fault-at r (h .lower) rows (h .filled) j (omega (arith, h .counted .rows)))
+    lowest-same (fault Ratio r rows) (λ j. ratioFault (partAt r j) (ratioAt r j)) (r .count)
+    (λ j l. fault-at r (h .lower) rows (h .all) j (omega (arith, h .formed .short)))
 
 loop-holds : tie.Need-loop-holds Inv-loop μ-loop
 unfolding lowest

@@ -2,44 +2,40 @@
 use Prim.Native.Nat.{ℕ, _+_, _≤_, _<_, _-_}
 use native.Mathlib.Nat.{lt-irrefl, not-suc-le-zero}
 use native.Mathlib.Omega.{arith}
-use mathlib.Core.Path.{_≡_, refl, subst, _∙_}
+use mathlib.Core.Path.{_≡_, refl, sym, subst, _∙_}
 use mathlib.Core.List.{List}
 use borrow.Author.Count.{below-more}
 use borrow.Author.Needs.{needs}
 use lib.ListN.{length, getD, set, length-set}
 use lib.Seq.{getD-set-same, getD-set-other}
-use Rattle.circuit.specs.Record.{partAt}
+use Rattle.circuit.specs.Record.{rowLimit, partAt}
 use Rattle.circuit.specs.declared.Part.{Part}
 use Rattle.circuit.specs.declared.Part.the-variants.{Blank, Leaf, Adaptor}
 use Rattle.circuit.specs.declared.Prepared.{Prepared}
-use Rattle.circuit.specs.declared.Record.{Record}
 use Rattle.laws.specs.Accepted.{Lower}
 use Rattle.laws.proofs.Counting.{is-table}
-use Rattle.setup.specs.Rows.{past, heldPart, heldRows}
-use Rattle.setup.proofs.Rows.{fills}
+use Rattle.setup.specs.Rows.{past}
+use Rattle.setup.proofs.Rows.{filledRow, filled-rows, fills}
 use Rattle.setup.proofs.port.prepared_rows.Statement.{statement}
 use Rattle.setup.proofs.port.prepared_rows.Tie as tie
 
-abbrev row : Record → ℕ → Prepared
-row r j = heldPart r j (partAt r j)
-
 abbrev Inv-loop : tie.InvT-loop
-Inv-loop r rows₀ j₀ rows j = (j ≤ 31) × (length rows ≡ 31) × ((k : ℕ) → k < j → getD rows k past ≡ row r k)
+Inv-loop r rows₀ j₀ rows j = (j ≤ rowLimit) × (length rows ≡ rowLimit) × ((k : ℕ) → k < j → getD rows k past ≡ filledRow r k)
 
 abbrev μ-loop : tie.MeasureT-loop
-μ-loop r rows₀ j₀ rows j = 31 - j
+μ-loop r rows₀ j₀ rows j = rowLimit - j
 
 -- children lower than a row are among the rows
-among : (j : ℕ) (p : Part) → j < 31 → Lower j p → Lower 31 p
+among : (j : ℕ) (p : Part) → j < rowLimit → Lower j p → Lower rowLimit p
 unfolding Lower
 among j Blank h l = tt
 among j (Leaf e) h l = tt
 among j (Adaptor a) h l = (omega arith, omega arith)
 
 -- one row more
-stored : (row : ℕ → Prepared) (rows : List Prepared) (j : ℕ) (q : Prepared) → j < length rows → q ≡ row j
+one-more : (row : ℕ → Prepared) (rows : List Prepared) (j : ℕ) (q : Prepared) → j < length rows → q ≡ row j
     → ((k : ℕ) → k < j → getD rows k past ≡ row k) → (k : ℕ) → k < j + 1 → getD (set rows j q) k past ≡ row k
-stored row rows j q l e below =
+one-more row rows j q l e below =
     below-more (λ k. getD (set rows j q) k past ≡ row k) j
     (λ k h. getD-set-other rows j k q past (λ same. lt-irrefl j (subst (λ (n : ℕ). n < j) same h)) ∙ below k h)
     (getD-set-same rows j q past l ∙ e)
@@ -50,8 +46,8 @@ loop-holds c = (omega arith, refl, λ k h. absurd (not-suc-le-zero h))
 prepared-row-requires : tie.Need-prepared-row-requires Inv-loop μ-loop
 prepared-row-requires c κs =
     let at = c .before .before in
-    let r = at .before .before .args .t1 in
-    among (at .loop .j) (partAt r (at .loop .j)) (c .before .loop-test .taken) (at .before .before .pre (at .loop .j))
+    let start = at .before .before in
+    among (at .loop .j) (partAt (start .args .t1) (at .loop .j)) (c .before .loop-test .taken) (start .pre (at .loop .j))
 
 loop-again : tie.Need-loop-again Inv-loop μ-loop
 loop-again c =
@@ -61,15 +57,15 @@ loop-again c =
     let filled = c .prepared-row .ensures ∙ fills r (start .pre) (at .loop .rows) (at .loop .j) (at .loop .inv .2) in (
       omega arith,
       rw length-set (at .loop .inv .1),
-      stored (row r) (at .loop .rows) (at .loop .j) (c .prepared-row .result) (omega arith) filled (at .loop .inv .2),
+      one-more (filledRow r) (at .loop .rows) (at .loop .j) (c .prepared-row .result) (omega arith) filled (at .loop .inv .2),
     )
 
 returns : tie.Need-returns Inv-loop μ-loop
-unfolding heldRows
 returns c =
     let at = c .before in
-    let e : at .loop .j ≡ 31 = omega arith in
-    is-table (row (at .before .before .args .t1)) (at .loop .rows) 31 past (at .loop .inv .1) (λ k h. at .loop .inv .2 k (rw e h))
+    let r = at .before .before .args .t1 in
+    let e : at .loop .j ≡ rowLimit = omega arith in
+    is-table (filledRow r) (at .loop .rows) rowLimit past (at .loop .inv .1) (λ k h. at .loop .inv .2 k (rw e h)) ∙ sym (filled-rows r)
 
 pub prepared-rows-spec : {M : Type 1} → statement M
 prepared-rows-spec =

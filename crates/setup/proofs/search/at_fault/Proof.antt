@@ -1,5 +1,6 @@
 -- `setup::search::at_fault` meets its contract: an arm for each fault.
-use Prim.Native.Nat.{ℕ}
+use Prim.Native.Nat.{ℕ, _<_}
+use native.Mathlib.Nat.{lt-of-lt-of-le}
 use mathlib.Core.Path.{_≡_, sym, ap, _∙_}
 use mathlib.Core.Bool.{not}
 use lib.Dec.{eqb}
@@ -13,6 +14,13 @@ use Rattle.setup.proofs.search.at_fault.Tie as tie
 -- a test of this fault's is the definition's
 is-fault : (c : tie.Start) {f : Fault} → c .args .f ≡ f → faultAt f (c .args .r) (c .args .i) ≡ faultAt (c .args .f) (c .args .r) (c .args .i)
 is-fault c e = ap (λ (g : Fault). faultAt g (c .args .r) (c .args .i)) (sym e)
+
+-- a column that is looked at is in use
+sound-column-requires : tie.Need-sound-column-requires
+sound-column-requires c κs =
+    let start = c .before .before in
+    let used : start .args .i < start .args .r .width = rw (c .enum-told4 .given .1) at (start .pre .1) in
+    lt-of-lt-of-le used (start .pre .0 .wide)
 
 returns : tie.Need-returns
 returns c =
@@ -37,4 +45,4 @@ pub at-fault-spec : {M : Type 1} → statement M
 at-fault-spec =
     tie.close
     (tie.spec (λ c. search needs) (λ c κs. search needs) (λ c κs. search needs) (λ c. search needs) (λ c κs. search needs) (λ c. search needs)
-    (λ c κs. search needs) (λ c κs. search needs) (λ c. search needs) (λ c κs. search needs) returns returns-2 returns-3 returns-4)
+    (λ c κs. search needs) (λ c κs. search needs) (λ c. search needs) sound-column-requires returns returns-2 returns-3 returns-4)

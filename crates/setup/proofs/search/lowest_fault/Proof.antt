@@ -4,13 +4,8 @@ use native.Mathlib.Omega.{arith}
 use mathlib.Core.Path.{_≡_, refl, sym, _∙_}
 use borrow.Author.Needs.{needs}
 use Rattle.circuit.specs.Numbers.{handed, passes, lowest}
-use Rattle.circuit.specs.Record.{columnLimit}
-use Rattle.circuit.specs.declared.Record.{Record}
 use Rattle.laws.proofs.Counting.{lowest-step}
-use Rattle.setup.specs.Answers.{Counted}
-use Rattle.setup.specs.Faults.{numberOf, placesOf, faultAt}
-use Rattle.setup.specs.declared.search.Fault.{Fault}
-use Rattle.setup.specs.declared.search.Fault.the-variants.{Lower, Once, Value, Column}
+use Rattle.setup.specs.Faults.{faultNumber, placesOf, faultAt}
 use Rattle.setup.proofs.Chain.{stops, goes-through}
 use Rattle.setup.proofs.search.lowest_fault.Statement.{statement}
 use Rattle.setup.proofs.search.lowest_fault.Tie as tie
@@ -21,22 +16,12 @@ Inv-loop f r n i₀ i = (i ≤ n) × (lowest (faultAt f r) i ≡ passes)
 abbrev μ-loop : tie.MeasureT-loop
 μ-loop f r n i₀ i = n - i
 
--- rows and columns alike
-inside : (f : Fault) (r : Record) → Counted r → placesOf f r ≤ columnLimit
-inside Lower r h = omega arith
-inside Once r h = omega arith
-inside Value r h = omega arith
-inside Column r h = omega arith
-
 loop-holds : tie.Need-loop-holds Inv-loop μ-loop
 unfolding lowest
 loop-holds c = (omega arith, refl)
 
 at-fault-requires : tie.Need-at-fault-requires Inv-loop μ-loop
-at-fault-requires c κs =
-    let places = c .before .before in
-    let start = places .before in
-    (start .pre, omega (arith, places .places .ensures, inside (start .args .f) (start .args .r) (start .pre)))
+at-fault-requires c κs = let places = c .before .before in (places .before .pre, omega (arith, places .places .ensures))
 
 returns : tie.Need-returns Inv-loop μ-loop
 returns c =
@@ -45,7 +30,7 @@ returns c =
     let r = at .before .before .args .r in
     let below : at .loop .i < placesOf f r = omega (arith, at .before .places .ensures) in
     c .answer-at .ensures
-    ∙ stops (numberOf f) (faultAt f r) (placesOf f r) (at .loop .i) (at .loop .inv .1) below (sym (c .before .before .at-fault .ensures) ∙ c .before .if1 .taken)
+    ∙ stops (faultNumber f) (faultAt f r) (placesOf f r) (at .loop .i) (at .loop .inv .1) below (sym (c .before .before .at-fault .ensures) ∙ c .before .if1 .taken)
 
 loop-again : tie.Need-loop-again Inv-loop μ-loop
 loop-again c =
@@ -60,7 +45,7 @@ returns-2 c =
     let f = at .before .before .args .f in
     let r = at .before .before .args .r in
     let reached = at .before .places .ensures in
-    goes-through (numberOf f) (faultAt f r) (placesOf f r) (at .loop .i) (at .loop .inv .1) (omega (arith, reached)) (omega (arith, reached))
+    goes-through (faultNumber f) (faultAt f r) (placesOf f r) (at .loop .i) (at .loop .inv .1) (omega (arith, reached)) (omega (arith, reached))
 
 pub lowest-fault-spec : {M : Type 1} → statement M
 lowest-fault-spec =

@@ -24,7 +24,10 @@ loop-holds : tie.Need-loop-holds Inv-loop μ-loop
 unfolding total
 loop-holds c = (omega arith, refl, omega arith)
 
-counted : (c : tie.After-one-if Inv-loop μ-loop) → c .one-if .result ≡ here (c .before .before .before .before .before .args .t1) (c .before .before .before .before .loop .j)
+abbrev turn : tie.After-one-if Inv-loop μ-loop → tie.At-loop Inv-loop μ-loop
+turn c = c .before .before .before .before
+
+counted : (c : tie.After-one-if Inv-loop μ-loop) → c .one-if .result ≡ here (turn c .before .args .t1) (turn c .loop .j)
 counted c = c .one-if .ensures ∙ ap one (c .before .is-input .ensures)
 
 few : (c : tie.After-one-if Inv-loop μ-loop) → c .one-if .result ≤ 1
@@ -35,7 +38,7 @@ add-n c = omega (arith, few c)
 
 loop-again : tie.Need-loop-again Inv-loop μ-loop
 loop-again c =
-    let at = c .before .before .before .before in
+    let at = turn c in
     (omega arith, ap₂ _+_ (at .loop .inv .1) (counted c) ∙ sym (total-step (here (at .before .args .t1)) (at .loop .j)), omega (arith, few c))
 
 returns : tie.Need-returns Inv-loop μ-loop

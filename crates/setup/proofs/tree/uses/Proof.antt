@@ -24,15 +24,18 @@ loop-holds : tie.Need-loop-holds Inv-loop μ-loop
 unfolding total
 loop-holds c = (omega arith, refl, omega arith)
 
+abbrev turn : tie.After-names Inv-loop μ-loop → tie.At-loop Inv-loop μ-loop
+turn c = c .before .before .before
+
 few : (c : tie.After-names Inv-loop μ-loop) → c .names .result ≤ 2
-few c = omega (arith, c .names .ensures, names-small (partAt (c .before .before .before .before .args .t1) (c .before .before .before .loop .j)) (c .before .before .before .before .args .k))
+few c = omega (arith, c .names .ensures, names-small (partAt (turn c .before .args .t1) (turn c .loop .j)) (turn c .before .args .k))
 
 add-n : tie.Need-add-n Inv-loop μ-loop
 add-n c = omega (arith, few c)
 
 loop-again : tie.Need-loop-again Inv-loop μ-loop
 loop-again c =
-    let at = c .before .before .before in
+    let at = turn c in
     (omega arith, ap₂ _+_ (at .loop .inv .1) (c .names .ensures) ∙ sym (total-step (by (at .before .args .t1) (at .before .args .k)) (at .loop .j)), omega (arith, few c))
 
 returns : tie.Need-returns Inv-loop μ-loop

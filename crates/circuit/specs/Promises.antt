@@ -1,0 +1,43 @@
+-- What the public functions promise: of all that goes in, what is handed back and what every lent buffer holds afterwards.
+use Prim.Native.Nat.{ℕ}
+use mathlib.Core.Path.{_≡_}
+use mathlib.Core.List.{List, _++_}
+use lib.IntN.{ℤ}
+use lib.ListN.{length, drop}
+use Rattle.circuit.specs.Numbers.{handed}
+use Rattle.circuit.specs.SetUp.{setUpReport, setUpRows}
+use Rattle.circuit.specs.Run.{Call, ran}
+use Rattle.circuit.specs.File.{readReport, readRecord, WriteCall, writeReport, bufferAfter}
+use Rattle.circuit.specs.Listing.{listing}
+use Rattle.circuit.specs.declared.Answer.{Answer}
+use Rattle.circuit.specs.declared.Record.{Record}
+use Rattle.circuit.specs.declared.SetUp.{SetUp}
+use Rattle.circuit.specs.declared.Reading.{Reading}
+use Rattle.circuit.specs.declared.Progress.{Progress}
+
+-- set-up of a record
+pub record SetsUp (r : Record) (s : SetUp) : Type 0 where
+  pub number : handed (s .answer) ≡ setUpReport r
+  pub rows : s .rows ≡ setUpRows r
+
+-- reading a file's bytes
+pub record Reads (bytes : List ℕ) (s : Reading) : Type 0 where
+  pub number : handed (s .answer) ≡ readReport bytes
+  pub circuit : s .«record» ≡ readRecord bytes
+
+-- writing, with what the buffer holds afterwards
+pub record Writes (c : WriteCall) (a : Answer) (after : List ℕ) : Type 0 where
+  pub number : handed a ≡ writeReport c
+  pub buffer : after ≡ bufferAfter c
+
+-- a run, with what the output holds afterwards
+pub record Runs (c : Call) (p : Progress) (after : List ℤ) : Type 0 where
+  pub number : handed (p .answer) ≡ ran c .handedBack
+  pub samples : p .done ≡ ran c .samples
+  pub waves : p .state .waves ≡ ran c .waves
+  pub output : after ≡ ran c .output
+
+-- listing a file's bytes: the length of the text, and what the buffer holds afterwards; bytes after the text stay as they were
+pub record Lists (bytes before : List ℕ) (n : ℕ) (after : List ℕ) : Type 0 where
+  pub size : n ≡ length (listing bytes)
+  pub text : after ≡ listing bytes ++ drop (length (listing bytes)) before

@@ -1,0 +1,38 @@
+-- That no whole bound below 2N + 1 will do, for any N that a circuit can have.
+use Prim.Native.Nat.{ℕ, _-_, _/_, _<_}
+use mathlib.Core.Path.{_≡_}
+use mathlib.Core.List.{List}
+use lib.IntN.{ℤ}
+use Rattle.whole.specs.Fraction.{Fraction}
+use Rattle.whole.specs.Nearness.{Near}
+use Rattle.circuit.specs.Numbers.{done}
+use Rattle.circuit.specs.Record.{rowLimit, adaptorsOf}
+use Rattle.circuit.specs.SetUp.{setUpReport}
+use Rattle.circuit.specs.Sample.{finished, storedAt, sampled}
+use Rattle.circuit.specs.Run.{freshWaves}
+use Rattle.circuit.specs.declared.Record.{Record}
+use Rattle.laws.specs.Accepted.{Sized}
+use Rattle.theorems.specs.Limit.{leastLimit, exactOutput, exactKept}
+
+-- n adaptors make 2n + 1 rows
+abbrev pub adaptorLimit : ℕ
+adaptorLimit = (rowLimit - 1) / 2
+
+-- a is within no whole number below E of q
+pub record Beyond (E : ℕ) (a : ℤ) (q : Fraction) : Type 0 where
+  pub beyond : (F : ℕ) → F < E → Near F a q → ⊥
+
+-- An accepted circuit of n adaptors, and a sample from a fresh state that strays as far as any may: its output, and the wave that a row
+-- stores. With no adaptor the only row is the input, which stores nothing.
+pub record Strays (n : ℕ) : Type 0 where
+  pub circuit : Record
+  pub sized : Sized circuit
+  pub accepted : setUpReport circuit ≡ done
+  pub adaptors : adaptorsOf circuit ≡ n
+  pub sample : ℤ
+  pub out : ℤ
+  pub next : List ℤ
+  pub works : sampled circuit freshWaves sample ≡ finished out next
+  pub output : Beyond (leastLimit n) out (exactOutput circuit freshWaves sample)
+  pub row : ℕ
+  pub stored : 0 < n → Beyond (leastLimit n) (storedAt next row) (exactKept circuit freshWaves sample row)
