@@ -2,6 +2,8 @@
 // that the unit hands back. What they mean is in specs/, a file to a heading of the paper.
 
 ghost use mathlib.Core.Path.{_≡_};
+ghost use lib.Dec.{eqb};
+ghost use lib.IntN.{natAbs};
 ghost use Rattle.circuit.specs.Counting.{within};
 ghost use Rattle.circuit.specs.Record.{isLeaf, isInput};
 ghost use Rattle.circuit.specs.Curve.{waveLimit};
@@ -211,4 +213,10 @@ pub fn in_wave_limit(microvolts: i32) -> bool
     ensures { λ b. ⌜ b ≡ within waveLimit microvolts ⌝ }
 {
     (-WAVE_LIMIT <= microvolts) & (microvolts <= WAVE_LIMIT)
+}
+
+pub fn is_zero(microvolts: i32) -> bool
+    ensures { λ b. ⌜ b ≡ eqb (natAbs microvolts) 0 ⌝ }
+{
+    microvolts == 0
 }

@@ -3,7 +3,7 @@
 ghost use mathlib.Core.Path.{_≡_};
 ghost use Prim.Native.Nat.{_<_, _≤_, _^_};
 ghost use mathlib.Core.Bool.{_&&_};
-ghost use lib.Dec.{eqb, leb};
+ghost use lib.Dec.{leb};
 ghost use lib.IntN.{pos, _-ℤ_, natAbs};
 ghost use lib.Signed.{ltZ};
 ghost use Rattle.circuit.specs.Counting.{some};
@@ -20,12 +20,7 @@ use circuit::Column;
 use circuit::CurveKind;
 use circuit::Record;
 use circuit::in_wave_limit;
-
-fn is_zero(x: i32) -> bool
-    ensures { λ b. ⌜ b ≡ eqb (natAbs x) 0 ⌝ }
-{
-    x == 0
-}
+use circuit::is_zero;
 
 pub(crate) fn at_origin(c: Column) -> bool
     ensures { λ b. ⌜ b ≡ atOrigin c ⌝ }

@@ -2,15 +2,16 @@
 -- The rules are over any width. `signed` is for `search`; `zfits` is `zarith` with the ranges of the signed widths, for `omega`.
 use mathlib.Core.Path.{_≡_, refl, sym, _∙_}
 use mathlib.Core.Bool.{Bool, true, false, _&&_}
-use Prim.Native.Nat.{ℕ, suc, _+_, _/_, _^_, _<_, _≤_, min, max}
+use Prim.Native.Nat.{ℕ, suc, _+_, _-_, _/_, _^_, _<_, _≤_, min, max}
 use native.Mathlib.Omega.{arith}
 use native.Mathlib.Nat.{mul-le-mul, div-le-self, lt-of-lt-of-le}
-use lib.Dec.{leb, leb·suc-suc}
+use borrow.Author.Tests.{ne-eqb}
+use lib.Dec.{eqb, leb, eqb·suc-zero, leb·suc-suc}
 use lib.Pow.{pow-add, pow-mono}
 use lib.IntN.{ℤ, pos, negsuc, _*ℤ_, natAbs}
 use lib.Signed.{leZ, shrZ, quotZ, mag-shr}
 use mir.Syntax.{Width, w32, w64}
-use mir.Val.{SFits, Fits, bits, hbits, toZ}
+use mir.Val.{SFits, Fits, bits, hbits, toZ, ofZ}
 use mir.ValLaws.{toZ-pos, sfits-le, fits-sub}
 use Rattle.whole.specs.Integers.{P, N, at, is-neg}
 use Rattle.whole.specs.Order.{zarith, natAbs-mul}
@@ -45,6 +46,11 @@ within-test m (negsuc n) = and-true (leb n m) ∙ sym (leb·suc-suc n m)
     and-true : (a : Bool) → a && true ≡ a
     and-true true = refl
     and-true false = refl
+
+-- the bits are 0 only where the number is
+pub zero-test : (z : ℤ) → SFits w32 z → eqb (ofZ w32 z) 0 ≡ eqb (natAbs z) 0
+zero-test (pos n) h = refl
+zero-test (negsuc n) h = ne-eqb (2 ^ 32 - suc n) 0 (λ e. omega (arith, h .sfits)) ∙ sym (eqb·suc-zero n)
 
 -- ---- for `omega`
 

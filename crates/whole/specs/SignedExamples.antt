@@ -3,7 +3,7 @@ use mathlib.Core.Path.{_≡_}
 use mathlib.Core.Bool.{_&&_}
 use Prim.Native.Nat.{ℕ, _^_, _<_}
 use native.Mathlib.Omega.{arith}
-use lib.Dec.{leb}
+use lib.Dec.{eqb, leb}
 use lib.IntN.{ℤ, pos, negsuc, _+ℤ_, _*ℤ_, natAbs}
 use lib.Signed.{leZ, shrZ, quotZ}
 use mir.Syntax.{w8, w32, w64}
@@ -11,7 +11,7 @@ use mir.Val.{SFits, Fits, toZ, ofZ}
 use mir.ValLaws.{toZ-ofZ}
 use Rattle.whole.specs.Integers.{at, _⊞_}
 use Rattle.whole.specs.Order.{Abs}
-use Rattle.whole.specs.Signed.{fits-abs, scaled-fits, shr-fits, trunc-fits, toZ-narrow, toZ-u32, within-test, signed, zfits}
+use Rattle.whole.specs.Signed.{fits-abs, scaled-fits, shr-fits, trunc-fits, toZ-narrow, toZ-u32, within-test, zero-test, signed, zfits}
 
 -- g·t of 24 and 38 bits, and its quotient by 2^24 either way
 ratio-of-a-wave : (g : ℕ) (t : ℤ) → g < 2 ^ 24 → natAbs t < 2 ^ 38 → SFits w64 (shrZ (pos g *ℤ t) (2 ^ 24)) × SFits w64 (quotZ (pos g *ℤ t) (pos (2 ^ 24)))
@@ -40,3 +40,6 @@ found-by-search z h = search signed
 
 hundred-either-way : (z : ℤ) → leZ (negsuc 99) z && leZ z (pos 100) ≡ leb (natAbs z) 100
 hundred-either-way z = within-test 99 z
+
+nothing-but-zero : (z : ℤ) → Abs z 5 → eqb (ofZ w32 z) 0 ≡ eqb (natAbs z) 0
+nothing-but-zero z h = zero-test z (omega zfits)
