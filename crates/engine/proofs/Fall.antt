@@ -20,9 +20,9 @@ use Rattle.circuit.specs.declared.Part.the-variants.{Blank, Leaf, Adaptor}
 use Rattle.circuit.specs.declared.Record.{Record}
 use Rattle.circuit.specs.Curve.{waveLimit}
 use Rattle.engine.specs.Plan.{rank}
-use Rattle.laws.specs.Accepted.{Child, Apart, adaptors}
+use Rattle.laws.specs.Accepted.{adaptorLimit, Child, Apart, adaptors}
 use Rattle.laws.proofs.Formed.{child-lower}
-use Rattle.engine.specs.Wave.{mostAdaptors, upLimit, downLimit}
+use Rattle.engine.specs.Wave.{upLimit, downLimit}
 use Rattle.engine.specs.Sweep.{linkAt, lowered, Lowers, dropped, Drops}
 use Rattle.engine.proofs.Range.{first-range, second-range}
 use Rattle.theorems.proofs.Bound.{rounded-down-errs}
@@ -162,7 +162,7 @@ module _ {r : Record} {words rows : List ℕ} {n : ℕ} (lined : Lined r words r
     module _ (k : ℕ) (ds : List ℤ) (falling : Falling top (suc k) ds) where
       -- below an adaptor that has sent
       below : (p : ℕ) (a : Joint) → p < r .count → partAt r p ≡ Adaptor a → suc k ≤ adaptorRank r p → {e : ℕ} → Abs (storedAt ds p) e
-          → (c : ℕ) → Child (Adaptor a) c → Abs (storedAt ds c) (e + upLimit mostAdaptors)
+          → (c : ℕ) → Child (Adaptor a) c → Abs (storedAt ds c) (e + upLimit adaptorLimit)
       below p a l e h size c child =
           let sends = falling .sends p a l e h in
           let lower = children-lower r (lined .accepted) p a e in

@@ -20,8 +20,8 @@ use Rattle.circuit.specs.SetUp.{parts}
 use Rattle.circuit.specs.Sample.{Arithmetic, Rounding, wholeWaves, rounded, h, sendsUp, sendsFirst, sendsSecond, up}
 use Rattle.circuit.specs.declared.Join.{Join}
 use Rattle.circuit.specs.declared.Join.the-variants.{Series, Parallel}
-use Rattle.laws.specs.Accepted.{adaptors}
-use Rattle.engine.specs.Wave.{mostAdaptors, upLimit, sumLimit, Below, Beneath}
+use Rattle.laws.specs.Accepted.{adaptorLimit, adaptors}
+use Rattle.engine.specs.Wave.{upLimit, sumLimit, Below, Beneath}
 use Rattle.theorems.specs.Rounding.{ErrsByOne}
 use Rattle.theorems.proofs.Straying.{parts-above-zero}
 use Rattle.theorems.proofs.Bound.{rounded-down-errs}
@@ -134,7 +134,7 @@ up-fits g a1 a2 b =
     let h1 = b .first in
     let h2 = b .second in
     let apart : Abs (a1 -ℤ a2) sumLimit = omega (zarith, at a1 ⊟ at a2) in
-    let up : Abs (a2 +ℤ h g (a1 -ℤ a2)) (upLimit mostAdaptors + upLimit mostAdaptors + 1) = up-range rounded-down-errs g (b .ratio) h1 h2 Parallel in
+    let up : Abs (a2 +ℤ h g (a1 -ℤ a2)) (upLimit adaptorLimit + upLimit adaptorLimit + 1) = up-range rounded-down-errs g (b .ratio) h1 h2 Parallel in
     record {
       first = omega zfits;
       second = omega zfits;

@@ -13,9 +13,9 @@ use Rattle.circuit.specs.declared.Adaptor.{Adaptor as Joint}
 use Rattle.circuit.specs.declared.Part.{Part}
 use Rattle.circuit.specs.declared.Part.the-variants.{Blank, Leaf, Adaptor}
 use Rattle.circuit.specs.declared.Record.{Record}
-use Rattle.laws.specs.Accepted.{Lower, adaptors, Accepted}
+use Rattle.laws.specs.Accepted.{adaptorLimit, Lower, adaptors, Accepted}
+use Rattle.laws.proofs.Accepting.{few-adaptors}
 use Rattle.laws.proofs.Trees.{tree-adaptor}
-use Rattle.engine.specs.Wave.{mostAdaptors}
 use Rattle.engine.specs.Plan.{rank, linkFor, Says, Ranked}
 use Rattle.engine.specs.Sweep.{linkAt}
 use Rattle.engine.proofs.Ranks.{place}
@@ -39,11 +39,11 @@ children-lower r acc j a e = subst (Lower j) e (acc .lower j)
 
 -- and make, with it, no more adaptors than there can be
 pub children-few : (r : Record) → Accepted r → (j : ℕ) (a : Joint) → j < r .count → partAt r j ≡ Adaptor a
-    → suc (adaptors (treeAt r (a .first)) + adaptors (treeAt r (a .second))) ≤ mostAdaptors
+    → suc (adaptors (treeAt r (a .first)) + adaptors (treeAt r (a .second))) ≤ adaptorLimit
 unfolding adaptors
 children-few r acc j a l e =
     let all = ap adaptors (tree-adaptor r (acc .lower) j a e) in
-    omega (arith, acc .partly j l, acc .odd, acc .short)
+    omega (arith, acc .partly j l, few-adaptors acc)
 
 -- ---- by place
 
@@ -60,9 +60,9 @@ pub record Stage (r : Record) (words rows : List ℕ) (k : ℕ) : Type 0 where
   pub link : linkAt words row ≡ linkFor joint (ratioAt r row)
 
 -- a list of all adaptors is no longer than there can be
-pub adaptors-most : (r : Record) → Accepted r → {rows : List ℕ} {n : ℕ} → Ranked (λ j. isAdaptor (partAt r j)) (r .count) rows n → n ≤ mostAdaptors
+pub adaptors-most : (r : Record) → Accepted r → {rows : List ℕ} {n : ℕ} → Ranked (λ j. isAdaptor (partAt r j)) (r .count) rows n → n ≤ adaptorLimit
 unfolding adaptorsOf rank
-adaptors-most r acc lists = omega (arith, lists .all, acc .odd, acc .short)
+adaptors-most r acc lists = omega (arith, lists .all, few-adaptors acc)
 
 -- The list has the adaptors of an accepted record, and the words say what they are.
 pub record Lined (r : Record) (words rows : List ℕ) (n : ℕ) : Type 0 where

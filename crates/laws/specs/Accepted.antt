@@ -1,5 +1,5 @@
 -- What acceptance gives: the facts of a record that set-up does not refuse, in the form that later proofs take them.
-use Prim.Native.Nat.{ℕ, suc, _+_, _*_, _<_, _≤_}
+use Prim.Native.Nat.{ℕ, suc, _+_, _-_, _*_, _/_, _<_, _≤_}
 use mathlib.Core.Path.{_≡_}
 use mathlib.Core.Logic.{_⊎_}
 use mathlib.Core.Bool.{false}
@@ -53,6 +53,10 @@ Above g (Adaptor a) = 0 < g
 unfoldable pub adaptors : Tree → ℕ
 adaptors (leaf j) = 0
 adaptors (adaptor k j t1 t2) = suc (adaptors t1 + adaptors t2)
+
+-- N adaptors make 2N + 1 rows
+abbrev pub adaptorLimit : ℕ
+adaptorLimit = (rowLimit - 1) / 2
 
 -- the adaptor p below the count has row k as a child
 pub record Parent (r : Record) (p k : ℕ) : Type 0 where

@@ -28,15 +28,11 @@ use Rattle.circuit.specs.declared.Part.the-variants.{Blank, Leaf, Adaptor}
 use Rattle.circuit.specs.declared.Record.{Record}
 use Rattle.circuit.proofs.Working.{working}
 use Rattle.circuit.proofs.Circuits.{ohms, input, resistor, capacitor, joins, column, circuit}
-use Rattle.laws.specs.Accepted.{Accepted}
+use Rattle.laws.specs.Accepted.{adaptorLimit, Accepted}
 use Rattle.laws.proofs.Counting.{every-on, every-true, getD-table}
 use Rattle.laws.proofs.Judging.{set-up-done}
 use Rattle.theorems.specs.Limit.{leastLimit, exactOutput, exactKept}
-use Rattle.theorems.specs.Tight.{adaptorLimit, Beyond, Strays}
-
--- no accepted circuit has more adaptors
-pub few-adaptors : {r : Record} → Accepted r → adaptorsOf r ≤ adaptorLimit
-few-adaptors a = let odd = a .odd in let short = a .short in omega arith
+use Rattle.theorems.specs.Tight.{Beyond, Strays}
 
 -- ---- with no adaptor the only row is the input, and nothing is stored
 

@@ -1,22 +1,18 @@
 -- That no whole bound below 2N + 1 will do, for any N that a circuit can have.
-use Prim.Native.Nat.{ℕ, _-_, _/_, _<_}
+use Prim.Native.Nat.{ℕ, _<_}
 use mathlib.Core.Path.{_≡_}
 use mathlib.Core.List.{List}
 use lib.IntN.{ℤ}
 use Rattle.whole.specs.Fraction.{Fraction}
 use Rattle.whole.specs.Nearness.{Near}
 use Rattle.circuit.specs.Numbers.{done}
-use Rattle.circuit.specs.Record.{rowLimit, adaptorsOf}
+use Rattle.circuit.specs.Record.{adaptorsOf}
 use Rattle.circuit.specs.SetUp.{setUpReport}
 use Rattle.circuit.specs.Sample.{finished, storedAt, sampled}
 use Rattle.circuit.specs.Run.{freshWaves}
 use Rattle.circuit.specs.declared.Record.{Record}
 use Rattle.laws.specs.Accepted.{Sized}
 use Rattle.theorems.specs.Limit.{leastLimit, exactOutput, exactKept}
-
--- n adaptors make 2n + 1 rows
-abbrev pub adaptorLimit : ℕ
-adaptorLimit = (rowLimit - 1) / 2
 
 -- a is within no whole number below E of q
 pub record Beyond (E : ℕ) (a : ℤ) (q : Fraction) : Type 0 where
