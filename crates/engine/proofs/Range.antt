@@ -11,7 +11,7 @@ use Rattle.whole.specs.Integers.{at, is-neg, _⊞_, _⊟_}
 use Rattle.whole.specs.Order.{zarith, Abs, abs-add, abs-neg, abs-as}
 use Rattle.whole.specs.Signed.{zfits}
 use Rattle.whole.specs.Ring.{Exp, var, _⊕_, _⊝_, ⊖}
-use Rattle.whole.specs.Mirror.{Quot, parts as listed, fracE, wholeE, _⊕F_, ⊖F, _⊝F_, timesE, by}
+use Rattle.whole.specs.Mirror.{Quot, parts as listed, fracE, wholeE, _⊕F_, ⊖F, _⊝F_, by}
 use Rattle.whole.specs.Fraction.{Fraction, whole, _≈_}
 use Rattle.whole.specs.Nearness.{Small, small-add, small-as, Near, near-whole, near-add, near-sub, near-neg, near-apart, mixture, mixtureE, small-mix}
 use Rattle.circuit.specs.Record.{Tree, leaf, adaptor}
@@ -22,6 +22,7 @@ use Rattle.circuit.specs.declared.Join.{Join}
 use Rattle.circuit.specs.declared.Join.the-variants.{Series, Parallel}
 use Rattle.laws.specs.Accepted.{adaptorLimit, adaptors}
 use Rattle.engine.specs.Wave.{upLimit, sumLimit, Below, Beneath}
+use Rattle.laws.proofs.Adaptors.{uE, b1E}
 use Rattle.theorems.specs.Rounding.{ErrsByOne}
 use Rattle.theorems.proofs.Straying.{parts-above-zero}
 use Rattle.theorems.proofs.Bound.{rounded-down-errs}
@@ -49,12 +50,6 @@ W = var 1
 abbrev waveE : ℕ → Quot
 waveE i = wholeE (var i)
 
-abbrev joinedE : Quot → Quot → Quot
-joinedE p1 p2 = p2 ⊕F timesE G W (p1 ⊝F p2)
-
-abbrev partedE : Quot → Quot → Quot → Quot
-partedE p1 p2 p3 = p1 ⊝F timesE G W (p1 ⊕F p2 ⊕F p3)
-
 module _ {ρ : Rounding} (errs : ErrsByOne ρ) where
   abbrev 𝓡 : Arithmetic
   𝓡 = wholeWaves ρ
@@ -72,7 +67,7 @@ module _ {ρ : Rounding} (errs : ErrsByOne ρ) where
       up-range Series = abs-as (abs-neg (abs-add h1 h2)) refl (omega arith)
       up-range Parallel =
           mixed a1 a2 (errs .u g a1 a2)
-          (record { same = by (pos g ∷ pos parts ∷ a1 ∷ a2 ∷ []) (mixtureE G W (waveE 2) (waveE 3)) (joinedE (waveE 2) (waveE 3)) refl })
+          (record { same = by (pos g ∷ pos parts ∷ a1 ∷ a2 ∷ []) (mixtureE G W (waveE 2) (waveE 3)) (uE (waveE 2) (waveE 3)) refl })
           (abs-as h1 refl (omega arith)) (abs-as h2 refl (omega arith))
 
       module _ {a3 : ℤ} {e3 : ℕ} (h3 : Abs a3 e3) where
@@ -81,14 +76,14 @@ module _ {ρ : Rounding} (errs : ErrsByOne ρ) where
         first-range Series =
             mixed (negℤ (a2 +ℤ a3)) a1 (errs .b1 g a1 a2 a3)
             (record {
-              same = by (pos g ∷ pos parts ∷ a1 ∷ a2 ∷ a3 ∷ []) (mixtureE G W (wholeE (⊖ (var 3 ⊕ var 4))) (waveE 2)) (partedE (waveE 2) (waveE 3) (waveE 4)) refl;
+              same = by (pos g ∷ pos parts ∷ a1 ∷ a2 ∷ a3 ∷ []) (mixtureE G W (wholeE (⊖ (var 3 ⊕ var 4))) (waveE 2)) (b1E (waveE 2) (waveE 3) (waveE 4)) refl;
             })
             (omega (zarith, is-neg (at a2 ⊞ at a3))) (abs-as h1 refl (omega arith))
         first-range Parallel =
             mixed a3 (a2 +ℤ a3 -ℤ a1) (near-sub (near-add (errs .u g a1 a2) (near-whole a3)) (near-whole a1))
             (record {
               same = by (pos g ∷ pos parts ∷ a1 ∷ a2 ∷ a3 ∷ []) (mixtureE G W (waveE 4) (wholeE (var 3 ⊕ var 4 ⊝ var 2)))
-                  (joinedE (waveE 2) (waveE 3) ⊕F waveE 4 ⊝F waveE 2) refl;
+                  (uE (waveE 2) (waveE 3) ⊕F waveE 4 ⊝F waveE 2) refl;
             })
             (abs-as h3 refl (omega arith)) (omega (zarith, at a2 ⊞ at a3 ⊟ at a1))
 
@@ -98,14 +93,14 @@ module _ {ρ : Rounding} (errs : ErrsByOne ρ) where
             mixed a2 (negℤ (a1 +ℤ a3)) (near-neg (near-add (near-whole a3) (errs .b1 g a1 a2 a3)))
             (record {
               same = by (pos g ∷ pos parts ∷ a1 ∷ a2 ∷ a3 ∷ []) (mixtureE G W (waveE 3) (wholeE (⊖ (var 2 ⊕ var 4))))
-                  (⊖F (waveE 4 ⊕F partedE (waveE 2) (waveE 3) (waveE 4))) refl;
+                  (⊖F (waveE 4 ⊕F b1E (waveE 2) (waveE 3) (waveE 4))) refl;
             })
             (abs-as h2 refl (omega arith)) (omega (zarith, is-neg (at a1 ⊞ at a3)))
         second-range Parallel =
             mixed (a1 -ℤ a2 +ℤ a3) a3 (near-sub (near-add (errs .u g a1 a2) (near-whole a3)) (near-whole a2))
             (record {
               same = by (pos g ∷ pos parts ∷ a1 ∷ a2 ∷ a3 ∷ []) (mixtureE G W (wholeE (var 2 ⊝ var 3 ⊕ var 4)) (waveE 4))
-                  (joinedE (waveE 2) (waveE 3) ⊕F waveE 4 ⊝F waveE 3) refl;
+                  (uE (waveE 2) (waveE 3) ⊕F waveE 4 ⊝F waveE 3) refl;
             })
             (omega (zarith, at a1 ⊟ at a2 ⊞ at a3)) (abs-as h3 refl (omega arith))
 

@@ -58,10 +58,10 @@ G = var 0
 abbrev K : Exp
 K = var 1
 
-abbrev uE : Quot → Quot → Quot
+abbrev pub uE : Quot → Quot → Quot
 uE p1 p2 = p2 ⊕F timesE G K (p1 ⊝F p2)
 
-abbrev b1E : Quot → Quot → Quot → Quot
+abbrev pub b1E : Quot → Quot → Quot → Quot
 b1E p1 p2 p3 = p1 ⊝F timesE G K (p1 ⊕F p2 ⊕F p3)
 
 module _ (g W : ℕ) (w : zero < W) (a1 a2 : ℤ) {k : ℤ} where

@@ -38,15 +38,15 @@ module _ (c : tie.After-segment) where
   count : (r : Record) → Plotted r (c .before .args .xs .now) (c .before .args .ys .now) → n ≡ passed r (whole (c .before .args .wave))
   count r h = rw (wave-reads (c .before)) at (c .segment .ensures r (h .edges))
 
-  within : n ≤ length (c .before .args .xs .now)
-  within = rw (plot (c .before) .edges .size, count (c .before .pre .0 .0) (plot (c .before))) (passed-most (c .before .pre .0 .0) (whole (c .before .args .wave)))
+  passed-inside : n ≤ length (c .before .args .xs .now)
+  passed-inside = rw (plot (c .before) .edges .size, count (c .before .pre .0 .0) (plot (c .before))) (passed-most (c .before .pre .0 .0) (whole (c .before .args .wave)))
 
 -- the column before the wave is column n − 1
 last : (c : tie.Else1) → suc (n (c .before) - 1) ≡ n (c .before)
 last c = omega arith
 
 inner : (c : tie.Else2) → n (c .before .before .before .before) < length (c .before .before .before .before .before .args .xs .now)
-inner c = omega (arith, within (c .before .before .before .before))
+inner c = omega (arith, passed-inside (c .before .before .before .before))
 
 some : (s : tie.Start) → 0 < length (s .args .xs .now)
 some s = let size = plot s .edges .size in let two = plot s .edges .drawn .two in omega arith
@@ -73,7 +73,7 @@ straight-requires-2 : tie.Need-straight-requires-2
 straight-requires-2 c κs =
     let s = c .before .before .before .before .before in
     let k = n (c .before .before .before .before) - 1 in
-    let l : k < length (s .args .xs .now) = omega (arith, within (c .before .before .before .before)) in
+    let l : k < length (s .args .xs .now) = omega (arith, passed-inside (c .before .before .before .before)) in
     rw (x-reads s k l, y-reads s k l, wave-reads s) (sloped (plot s) (s .pre .1) k (omega (arith, plot s .edges .size)) (negsuc 0) (omega zarith))
 
 returns-2 : tie.Need-returns-2
@@ -81,7 +81,7 @@ returns-2 c =
     let s = c .before .before .before .before .before .before in
     let at = c .before .before .before .before .before in
     let k = n at - 1 in
-    let l : k < length (s .args .xs .now) = omega (arith, within at) in
+    let l : k < length (s .args .xs .now) = omega (arith, passed-inside at) in
     let line = rw (x-reads s k l, y-reads s k l, wave-reads s) at (c .straight2 .ensures) in
     λ r h.
     returned (c .straight2 .result) (c .straight2 .ok) ∙ line
@@ -117,16 +117,16 @@ drawn-line-spec =
     straight-requires
     returns
     (λ c. search needs)
-    (λ c. omega (arith, within (c .before)))
-    (λ c. omega (arith, within (c .before)))
+    (λ c. omega (arith, passed-inside (c .before)))
+    (λ c. omega (arith, passed-inside (c .before)))
     (λ c. search needs)
-    (λ c. omega (arith, within (c .before .before)))
-    (λ c. omega (arith, within (c .before .before), same (c .before .before .before)))
+    (λ c. omega (arith, passed-inside (c .before .before)))
+    (λ c. omega (arith, passed-inside (c .before .before), same (c .before .before .before)))
     straight-requires-2
     returns-2
-    (λ c. omega (arith, within (c .before .before .before .before)))
+    (λ c. omega (arith, passed-inside (c .before .before .before .before)))
     (λ c. inner c)
-    (λ c. omega (arith, within (c .before .before .before .before .before)))
+    (λ c. omega (arith, passed-inside (c .before .before .before .before .before)))
     (λ c. let l = inner (c .before) in omega (arith, same (c .before .before .before .before .before .before)))
     between-requires
     returns-3)
