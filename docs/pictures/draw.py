@@ -314,10 +314,12 @@ def curve():
 
 def flow():
     p = Picture(
-        "flow.svg", 1040, 400, "From the bytes of a circuit file to outputs",
+        "flow.svg", 1040, 470, "From the bytes of a circuit file to outputs",
         [
             "A circuit file is read into a record, set-up makes prepared rows of it, a run lays out a plan and works samples by it.",
             "read can refuse with 1 to 11, write with 1 and 4 to 11, set_up with 4 to 11, run with 4 to 15.",
+            "feed makes raw outputs of the bytes of a take, call by call, and can refuse with 4 to 12, 15 and 16; finish ends the take, and can",
+            "refuse with 4 to 12, 15 and 17.",
             "list makes the text of a listing from the bytes; where reading refuses, the text says the number, 1 to 11.",
         ])
     p.text(28, 34, "From a circuit file to outputs", size=16, bold=True)
@@ -363,7 +365,15 @@ def flow():
     p.arrow([(centre[0], under + 4), (centre[0], 316)], UP)
     label(centre[0] + 10, 254, "list", "in its text: 1 to 11", "start")
     p.box(centre[0], 320, w, ["listing", "a line for each row,", "or the refusal"])
-    p.text(centre[1] - w / 2, 358, "What each number means, its place and what to do about it: docs/NUMBERS.md.", ink=GREY)
+
+    p.box(centre[1], 320, w, ["raw take", "three bytes each,", "cut at any byte"])
+    p.box(centre[4], 320, w, ["raw outputs", "four bytes", "for each sample"])
+    p.arrow([(centre[1] + w / 2 + 4, 352), (centre[4] - w / 2 - 4, 352)], UP)
+    label(centre[2], 328, "feed, for each piece", "4 to 12, 15, 16")
+    label(centre[3], 328, "finish, at the end", "4 to 12, 15, 17")
+    p.text(x, 372, "feed takes the record and what the call before it carried on: the stored waves,", "middle", 12, GREY)
+    p.text(x, 389, "the bytes of a sample that is not whole yet, how many samples are done", "middle", 12, GREY)
+    p.text(28, 440, "What each number means, its place and what to do about it: docs/NUMBERS.md.", ink=GREY)
     p.save()
 
 

@@ -1,10 +1,10 @@
-// The number and the place of an answer, as the paper's table has them: what a program prints.
+// The number and the place of an answer, as the tables have them: what a program prints.
 
 ghost use mathlib.Core.Path.{_≡_};
 ghost use Rattle.circuit.specs.Numbers.{handed};
 use circuit::Answer;
 
-// From 0, done, to 15.
+// From 0, done, to 17.
 pub fn number(a: Answer) -> u64
     ensures { λ r. ⌜ r ≡ handed a .number ⌝ }
 {
@@ -25,10 +25,13 @@ pub fn number(a: Answer) -> u64
         Answer::Lengths => 13,
         Answer::Sample(_) => 14,
         Answer::Overload(_) => 15,
+        Answer::Room => 16,
+        Answer::LeftOver(_) => 17,
     }
 }
 
-// A block, a row (255 for the input or the tap), a column, or the index of a sample; 0 where a number has no place.
+// A block, a row (255 where the fault lies at none), a column, the index of a sample, or how many samples are done; 0 where a number has
+// no place.
 pub fn place(a: Answer) -> u64
     ensures { λ r. ⌜ r ≡ handed a .place ⌝ }
 {
@@ -49,5 +52,7 @@ pub fn place(a: Answer) -> u64
         Answer::Lengths => 0,
         Answer::Sample(index) => index as u64,
         Answer::Overload(index) => index as u64,
+        Answer::Room => 0,
+        Answer::LeftOver(samples) => samples as u64,
     }
 }

@@ -4,21 +4,29 @@ use mathlib.Core.Path.{_≡_}
 use mathlib.Core.List.{List, _++_}
 use lib.IntN.{ℤ}
 use lib.ListN.{length, drop}
-use Rattle.circuit.specs.Numbers.{handed}
+use Rattle.circuit.specs.Numbers.{handed, judge}
 use Rattle.circuit.specs.SetUp.{setUpReport, setUpRows}
-use Rattle.circuit.specs.Run.{Call, ran}
+use Rattle.circuit.specs.Run.{Charged, chargedRules, Call, ran}
 use Rattle.circuit.specs.File.{readReport, readRecord, WriteCall, writeReport, bufferAfter}
 use Rattle.circuit.specs.Listing.{listing}
+use Rattle.circuit.specs.Words.{meaning}
+use Rattle.circuit.specs.Take.{UnderWay, Feeding, fed, ended}
 use Rattle.circuit.specs.declared.Answer.{Answer}
 use Rattle.circuit.specs.declared.Record.{Record}
 use Rattle.circuit.specs.declared.SetUp.{SetUp}
 use Rattle.circuit.specs.declared.Reading.{Reading}
 use Rattle.circuit.specs.declared.Progress.{Progress}
+use Rattle.circuit.specs.declared.Feed.{Feed}
 
 -- set-up of a record
 pub record SetsUp (r : Record) (s : SetUp) : Type 0 where
   pub number : handed (s .answer) ≡ setUpReport r
   pub rows : s .rows ≡ setUpRows r
+
+-- 4 to 12 of a circuit with its stored waves, and set-up's rows
+pub record Charges (k : Charged) (s : SetUp) : Type 0 where
+  pub number : handed (s .answer) ≡ judge chargedRules k
+  pub rows : s .rows ≡ setUpRows (k .circuit)
 
 -- reading a file's bytes
 pub record Reads (bytes : List ℕ) (s : Reading) : Type 0 where
@@ -41,3 +49,19 @@ pub record Runs (c : Call) (p : Progress) (after : List ℤ) : Type 0 where
 pub record Lists (bytes before : List ℕ) (n : ℕ) (after : List ℕ) : Type 0 where
   pub size : n ≡ length (listing bytes)
   pub text : after ≡ listing bytes ++ drop (length (listing bytes)) before
+
+-- an answer in words, likewise
+pub record Explains (a : Answer) (before : List ℕ) (n : ℕ) (after : List ℕ) : Type 0 where
+  pub size : n ≡ length (meaning a)
+  pub text : after ≡ meaning a ++ drop (length (meaning a)) before
+
+-- a call of a take, with what the room holds afterwards
+pub record Feeds (f : Feeding) (s : Feed) (after : List ℕ) : Type 0 where
+  pub number : handed (s .answer) ≡ fed f .handedBack
+  pub samples : s .done ≡ fed f .samples
+  pub carried : s .carried ≡ fed f .carried
+  pub room : after ≡ fed f .room
+
+-- the ending of a take
+pub record Ends (t : UnderWay) (a : Answer) : Type 0 where
+  pub number : handed a ≡ ended t

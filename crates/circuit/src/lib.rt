@@ -43,6 +43,16 @@ pub const CHECK_PLACE: usize = 508;
 
 pub const ROWS_PER_BLOCK: usize = 31;
 
+// Bytes of a raw sample and of a raw output, and the most that can be left over.
+pub const SAMPLE_LENGTH: usize = 3;
+
+pub const OUTPUT_LENGTH: usize = 4;
+
+pub const LEFT_LIMIT: usize = 2;
+
+// Whole samples of a take.
+pub const TAKE_LIMIT: u64 = 4611686018427387904;
+
 // A leaf: ohms, farads or henries. A steady source also has its microvolts.
 pub enum Element {
     Resistor(f64),
@@ -168,8 +178,8 @@ pub struct Wave(pub i64);
 // A port voltage, in whole half microvolts: twice the voltage is the sum of the two waves.
 pub struct Doubled(pub i32);
 
-// What is handed back, a case for each line of the paper's table of numbers. A case holds its place: a block, a row (255 for the
-// input or the tap), a column, or the index of a sample.
+// What is handed back, a case for each number. A case holds its place: a block, a row (255 for the input, the tap, or what a take carries
+// beside its waves), a column, the index of a sample, or how many samples are done.
 pub enum Answer {
     Done,
     Length,
@@ -187,6 +197,8 @@ pub enum Answer {
     Lengths,
     Sample(usize),
     Overload(usize),
+    Room,
+    LeftOver(usize),
 }
 
 // What set-up hands back; on refusal the rows are zeros.
@@ -206,6 +218,25 @@ pub struct Progress {
     pub answer: Answer,
     pub done: usize,
     pub state: State,
+}
+
+// What a take carries from call to call.
+pub struct Carried {
+    pub state: State,
+    // the bytes of a sample that is not whole yet, and how many they are
+    pub left: [u8; LEFT_LIMIT],
+    pub count: u8,
+    // whole samples done since the start of the take
+    pub done: u64,
+    // 15 once a sample is refused, and 0 before
+    pub held: u8,
+}
+
+// What a call of a take hands back: how many samples it did, and what it carries on.
+pub struct Feed {
+    pub answer: Answer,
+    pub done: usize,
+    pub carried: Carried,
 }
 
 // Whether microvolts keep the limit of a wave.

@@ -13,6 +13,8 @@ pub mod Reach
 pub mod Sending
 pub mod Sampling
 pub mod Finishing
-pub mod Refusing
 pub mod Loading
+pub mod Looping
+pub mod RawBytes
+pub mod RawRuns
 pub mod Holding

@@ -4,3 +4,4 @@ pub mod Plan
 pub mod Sweep
 pub mod Sample
 pub mod Play
+pub mod Raw

@@ -1,35 +1,33 @@
 -- The samples of a run over the laid-out lists: what they come to, for every circuit that the lists are laid out for.
-use Prim.Native.Nat.{ℕ}
 use mathlib.Core.Path.{_≡_}
-use mathlib.Core.List.{List}
+use mathlib.Core.List.{List, _++_}
 use lib.IntN.{ℤ}
-use lib.ListN.{length}
-use Rattle.circuit.specs.Numbers.{handed, judge}
+use lib.ListN.{length, drop}
+use Rattle.circuit.specs.Numbers.{handed, passes}
 use Rattle.circuit.specs.Record.{rowLimit}
-use Rattle.circuit.specs.Run.{Ran, runRules, ran, call}
-use Rattle.circuit.specs.SetUp.{preparedRows}
+use Rattle.circuit.specs.Run.{Played, play, storedWavesRule, reportAfter}
 use Rattle.circuit.specs.declared.Prepared.{Prepared}
 use Rattle.circuit.specs.declared.Record.{Record}
-use Rattle.laws.specs.Accepted.{Sized}
-use Rattle.engine.specs.declared.plan.Shape.{Shape}
 use Rattle.engine.specs.declared.play.Stop.{Stop}
-use Rattle.engine.specs.Sample.{Fixed, Loaded}
+use Rattle.engine.specs.Sample.{Ready, Loaded}
 
--- what a run hands back and leaves, with the waves ws after it
-abbrev pub atStop : Stop → List ℤ → List ℤ → Ran
-atStop s ws out = record { handedBack = handed (s .answer); samples = s .done; waves = ws; output = out }
+-- why no more samples are done, and how many are
+pub record Stops (p : Played) (s : Stop) : Type 0 where
+  pub number : handed (s .answer) ≡ reportAfter (length (p .outputs)) (p .number)
+  pub samples : s .done ≡ length (p .outputs)
 
--- of a call that 4 to 13 do not refuse: the samples are the definition's, and the waves after them are loaded
-pub record Plays (shape : Shape) (words adaptors leaves reactive : List ℕ) (xs ys ups ins outs : List ℤ) (s : Stop) (after out : List ℤ) : Type 0 where
-  pub plays : (r : Record) (ws : List ℤ) → Fixed shape words adaptors leaves reactive xs ys r → Loaded r ws ups
-      → judge runRules (call r ws ins outs) .number ≡ 0
-      → (next : List ℤ) × (ran (call r ws ins outs) ≡ atStop s next out) × Loaded r next after
+-- The samples xs come to what the definition plays, for every circuit that is laid out and whose waves are loaded: `written` holds of the
+-- outputs, and the waves after them are loaded.
+pub record Plays (laid : Record → Type 0) (ups xs : List ℤ) (written : List ℤ → Type 0) (s : Stop) (after : List ℤ) : Type 0 where
+  pub plays : (r : Record) (ws : List ℤ) → laid r → Loaded r ws ups
+      → Stops (play r ws xs) s × written (play r ws xs .outputs) × Loaded r (play r ws xs .waves) after
 
--- ---- a run
+-- `front` is written over the first of what was there before, and what is after it is as it was
+abbrev pub Written : {A : Type 0} → List A → List A → List A → Type 0
+Written before after front = after ≡ front ++ drop (length front) before
 
--- rows after set-up, of a record that it does not refuse, and a call that 4 to 13 do not refuse
-pub record Playable (r : Record) (rows : List Prepared) (ws ins outs : List ℤ) : Type 0 where
-  pub sized : Sized r
+-- rows after set-up and stored waves, of a circuit that 4 to 12 do not refuse
+pub record Playable (r : Record) (rows : List Prepared) (ws : List ℤ) : Type 0 where
+  pub ready : Ready r rows
   pub stored : length ws ≡ rowLimit
-  pub prepared : rows ≡ preparedRows r
-  pub allowed : judge runRules (call r ws ins outs) .number ≡ 0
+  pub waves : storedWavesRule r ws ≡ passes

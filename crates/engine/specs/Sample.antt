@@ -5,16 +5,20 @@ use mathlib.Core.Bool.{Bool, true, false, not, cond}
 use mathlib.Core.List.{List}
 use lib.Dec.{eqb}
 use lib.IntN.{ℤ, pos, _+ℤ_, negℤ}
-use lib.ListN.{length, getD, set}
+use lib.ListN.{length, getD, take, set}
 use Rattle.whole.specs.Order.{Abs}
 use Rattle.circuit.specs.Counting.{within, some}
+use Rattle.circuit.specs.Numbers.{done}
 use Rattle.circuit.specs.Record.{partAt, isLeaf, isInput, top, rowLimit}
 use Rattle.circuit.specs.Curve.{waveLimit}
+use Rattle.circuit.specs.SetUp.{preparedRows, setUpReport}
 use Rattle.circuit.specs.Sample.{rounded, sent, sampled, refused, finished, storedAt}
 use Rattle.circuit.specs.Run.{soundWave}
 use Rattle.circuit.specs.declared.Doubled.{Doubled}
+use Rattle.circuit.specs.declared.Prepared.{Prepared}
 use Rattle.circuit.specs.declared.Record.{Record}
-use Rattle.laws.specs.Accepted.{Accepted}
+use Rattle.laws.specs.Accepted.{Sized, Accepted}
+use Rattle.engine.specs.declared.plan.Plan.{Plan}
 use Rattle.engine.specs.declared.plan.Shape.{Shape}
 use Rattle.engine.specs.declared.sample.Outcome.{Outcome}
 use Rattle.engine.specs.declared.sample.Outcome.the-variants.{Loud, Over, Finished}
@@ -95,6 +99,17 @@ pub record Fixed (shape : Shape) (words adaptors leaves reactive : List ℕ) (xs
   pub tap : shape .tap ≡ tapRow r
   pub inside : shape .input < r .count
   pub input : isInput (partAt r (shape .input)) ≡ true
+
+-- rows after set-up, of a record that it does not refuse
+pub record Ready (r : Record) (rows : List Prepared) : Type 0 where
+  pub sized : Sized r
+  pub setUp : setUpReport r ≡ done
+  pub prepared : rows ≡ preparedRows r
+
+-- a plan of the record
+pub record Plans (p : Plan) (r : Record) : Type 0 where
+  pub width : p .width ≡ r .width
+  pub fixed : Fixed (p .shape) (p .words) (p .adaptors) (p .leaves) (p .reactive) (take (p .width) (p .xs)) (take (p .width) (p .ys)) r
 
 -- the stored waves ws pass rule 12, and every leaf but the input has at its row what it sends next
 pub record Loaded (r : Record) (ws ups : List ℤ) : Type 0 where

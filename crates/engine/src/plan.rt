@@ -1,11 +1,14 @@
 // What a run lays out of a record before its first sample: a word for each row, and lists of the rows that a sweep visits.
+use crate::curve::lay_out;
 use circuit::Adaptor;
+use circuit::COLUMNS;
 use circuit::CurveKind;
 use circuit::Element;
 use circuit::Join;
 use circuit::Part;
 use circuit::Prepared;
 use circuit::ROWS;
+use circuit::Record;
 use circuit::Row;
 use circuit::TOP;
 ghost use mathlib.Core.Path.{_≡_};
@@ -17,6 +20,7 @@ ghost use Rattle.circuit.specs.Counting.{total, one};
 ghost use Rattle.circuit.specs.Record.{rowLimit, top, rowIn, isAdaptor, isInput};
 ghost use Rattle.circuit.specs.declared.Part.{Part};
 ghost use Rattle.engine.specs.Plan.{joinOf, codeOf, linkOf, Says, isReactivePart, chosenBy, enteredIf, ratioIn, Ranked};
+ghost use Rattle.engine.specs.Sample.{Ready, Plans};
 
 // An adaptor's row: its ratio in parts of 2^24, and its children's rows.
 pub(crate) struct Link {
@@ -45,7 +49,20 @@ pub(crate) struct Shape {
     pub kind: CurveKind,
 }
 
-pub(crate) enum Choice {
+// All that the samples of a run read.
+pub(crate) struct Plan {
+    pub words: [u64; ROWS],
+    pub adaptors: [u8; ROWS],
+    pub leaves: [u8; ROWS],
+    pub reactive: [u8; ROWS],
+    // how many columns are in use, and the columns
+    pub width: usize,
+    pub xs: [i64; COLUMNS],
+    pub ys: [i64; COLUMNS],
+    pub shape: Shape,
+}
+
+enum Choice {
     Adaptors,
     Leaves,
     Reactive,
@@ -123,7 +140,7 @@ fn pack(part: Part, g: u32) -> u64
     }
 }
 
-pub(crate) fn words(rows: [Row; ROWS], prepared: [Prepared; ROWS]) -> [u64; ROWS]
+fn words(rows: [Row; ROWS], prepared: [Prepared; ROWS]) -> [u64; ROWS]
     ensures { λ r. ⌜ ((j : ℕ) → j < rowLimit → Says (rowIn rows j .part) (ratioIn prepared j) (getD r j 0)) ⌝ }
 {
     let mut words = [0u64; ROWS];
@@ -182,7 +199,7 @@ fn entered(list: Listed, i: usize, wanted: bool) -> Listed
     }
 }
 
-pub(crate) fn rows_of(rows: [Row; ROWS], count: usize, choice: Choice) -> Listed
+fn rows_of(rows: [Row; ROWS], count: usize, choice: Choice) -> Listed
     requires { ⌜ count ≤ rowLimit ⌝ }
     ensures { λ r. ⌜ Ranked (λ j. chosenBy choice (rowIn rows j .part)) count (r .rows) (r .length) ⌝ }
 {
@@ -199,7 +216,7 @@ pub(crate) fn rows_of(rows: [Row; ROWS], count: usize, choice: Choice) -> Listed
 }
 
 // The row of the one input.
-pub(crate) fn input_row(rows: [Row; ROWS], count: usize) -> usize
+fn input_row(rows: [Row; ROWS], count: usize) -> usize
     requires { ⌜ (count ≤ rowLimit) × (0 < total (λ j. one (isInput (rowIn rows j .part))) count) ⌝ }
     ensures { λ r. ⌜ (r < count) × (isInput (rowIn rows r .part) ≡ true) ⌝ }
 {
@@ -216,8 +233,50 @@ pub(crate) fn input_row(rows: [Row; ROWS], count: usize) -> usize
 }
 
 // The row that a tap reads: at the top the two waves are the top's and the diode's.
-pub(crate) fn tap_row(tap: u8, last: usize) -> usize
+fn tap_row(tap: u8, last: usize) -> usize
     ensures { λ r. ⌜ r ≡ cond (eqb tap top) last tap ⌝ }
 {
     if tap == TOP { last } else { wide(tap) }
+}
+
+// `prepared` are the record's rows after set-up.
+pub(crate) fn plan_of(r: Record, prepared: [Prepared; ROWS]) -> Plan
+    requires { ⌜ Ready r prepared ⌝ }
+    ensures { λ p. ⌜ Plans p r ⌝ }
+{
+    let rows = r.rows;
+    let count = wide(r.count);
+    let words = words(rows, prepared);
+    let adaptors = rows_of(rows, count, Choice::Adaptors);
+    let leaves = rows_of(rows, count, Choice::Leaves);
+    let reactive = rows_of(rows, count, Choice::Reactive);
+    let last = count - 1;
+    let kind = r.kind;
+    let shape = Shape {
+        adaptors: adaptors.length,
+        leaves: leaves.length,
+        reactive: reactive.length,
+        input: input_row(rows, count),
+        last,
+        tap: tap_row(r.tap, last),
+        kind,
+    };
+    let columns = r.columns;
+    let axes = lay_out(columns);
+    let width = wide(r.width);
+    let xs = axes.xs;
+    let ys = axes.ys;
+    let joints = adaptors.rows;
+    let ends = leaves.rows;
+    let stores = reactive.rows;
+    Plan {
+        words,
+        adaptors: joints,
+        leaves: ends,
+        reactive: stores,
+        width,
+        xs,
+        ys,
+        shape,
+    }
 }

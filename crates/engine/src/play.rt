@@ -1,14 +1,8 @@
 // The samples of a run, in order: the plan is laid out once, and each sample starts from the waves that the one before it stored.
-use crate::curve::lay_out;
 use crate::leaf::part_sends;
 use crate::leaf::part_taken;
-use crate::plan::Choice;
 use crate::plan::Shape;
-use crate::plan::input_row;
-use crate::plan::rows_of;
-use crate::plan::tap_row;
-use crate::plan::wide;
-use crate::plan::words;
+use crate::plan::plan_of;
 use crate::sample::Outcome;
 use crate::sample::sample;
 use circuit::Answer;
@@ -31,11 +25,11 @@ ghost use Rattle.circuit.specs.Record.{rowLimit, rowIn};
 ghost use Rattle.circuit.specs.Run.{freshWaves, call};
 ghost use Rattle.circuit.specs.Promises.{Runs};
 ghost use Rattle.engine.specs.Plan.{partTaken};
-ghost use Rattle.engine.specs.Sample.{LaidOut};
-ghost use Rattle.engine.specs.Play.{Plays, Playable};
+ghost use Rattle.engine.specs.Sample.{Fixed, LaidOut};
+ghost use Rattle.engine.specs.Play.{Written, Plays, Playable};
 
 // What each row sends from its stored wave; the input's row waits for a sample.
-fn load(rows: [Row; ROWS], state: State) -> [i64; ROWS]
+pub(crate) fn load(rows: [Row; ROWS], state: State) -> [i64; ROWS]
     ensures { λ r. ⌜ (length r ≡ rowLimit) × ((j : ℕ) → j < rowLimit → storedAt r j ≡ partSends rounded (pos 0) (storedAt (state .waves) j) (rowIn rows j .part)) ⌝ }
 {
     let mut up = [0i64; ROWS];
@@ -50,7 +44,7 @@ fn load(rows: [Row; ROWS], state: State) -> [i64; ROWS]
 }
 
 // The stored waves, out of what the rows send next.
-fn unload(rows: [Row; ROWS], up: [i64; ROWS]) -> State
+pub(crate) fn unload(rows: [Row; ROWS], up: [i64; ROWS]) -> State
     requires { ⌜ ((j : ℕ) → j < rowLimit → Abs (partTaken (rowIn rows j .part) (storedAt up j)) waveLimit) ⌝ }
     ensures { λ r. ⌜ (length (r .waves) ≡ rowLimit) × ((j : ℕ) → j < rowLimit → storedAt (r .waves) j ≡ partTaken (rowIn rows j .part) (storedAt up j)) ⌝ }
 {
@@ -95,7 +89,7 @@ fn samples(
     output: &mut [i32],
 ) -> Stop
     requires { ⌜ LaidOut shape (now words) (now adaptors) (now leaves) (now reactive) (now xs) (now ys) (now up) freshWaves × (length (now input) ≡ length (now output)) ⌝ }
-    ensures { λ s. ⌜ Plays shape (now (words .entry)) (now (adaptors .entry)) (now (leaves .entry)) (now (reactive .entry)) (now (xs .entry)) (now (ys .entry)) (now (up .entry)) (now (input .entry)) (now (output .entry)) s (now (up .exit)) (now (output .exit)) ⌝ }
+    ensures { λ s. ⌜ Plays (Fixed shape (now (words .entry)) (now (adaptors .entry)) (now (leaves .entry)) (now (reactive .entry)) (now (xs .entry)) (now (ys .entry))) (now (up .entry)) (now (input .entry)) (Written (now (output .entry)) (now (output .exit))) s (now (up .exit)) ⌝ }
 {
     let mut down = [0i64; ROWS];
     let mut i: usize = 0;
@@ -144,41 +138,26 @@ pub(crate) fn play(
     input: &[i32],
     output: &mut [i32],
 ) -> Progress
-    requires { ⌜ Playable r prepared (state .waves) (now input) (now output) ⌝ }
+    requires { ⌜ Playable r prepared (state .waves) × (length (now input) ≡ length (now output)) ⌝ }
     ensures { λ p. ⌜ Runs (call r (state .waves) (now (input .entry)) (now (output .entry))) p (now (output .exit)) ⌝ }
 {
+    let plan = plan_of(r, prepared);
+    let shape = plan.shape;
+    let words = plan.words;
+    let adaptors = plan.adaptors;
+    let leaves = plan.leaves;
+    let reactive = plan.reactive;
+    let width = plan.width;
+    let xs = plan.xs;
+    let ys = plan.ys;
     let rows = r.rows;
-    let count = wide(r.count);
-    let words = words(rows, prepared);
-    let adaptors = rows_of(rows, count, Choice::Adaptors);
-    let leaves = rows_of(rows, count, Choice::Leaves);
-    let reactive = rows_of(rows, count, Choice::Reactive);
-    let last = count - 1;
-    let kind = r.kind;
-    let shape = Shape {
-        adaptors: adaptors.length,
-        leaves: leaves.length,
-        reactive: reactive.length,
-        input: input_row(rows, count),
-        last,
-        tap: tap_row(r.tap, last),
-        kind,
-    };
-    let columns = r.columns;
-    let axes = lay_out(columns);
-    let width = wide(r.width);
-    let xs = axes.xs;
-    let ys = axes.ys;
-    let joints = adaptors.rows;
-    let ends = leaves.rows;
-    let stores = reactive.rows;
     let mut up = load(rows, state);
     let stop = samples(
         shape,
         &words,
-        &joints,
-        &ends,
-        &stores,
+        &adaptors,
+        &leaves,
+        &reactive,
         &xs[..width],
         &ys[..width],
         &mut up,

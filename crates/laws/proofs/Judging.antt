@@ -1,11 +1,14 @@
 -- Laws of judging: a list of rules is tried in order, so it is decided by the first that fails. Where every number is above 0, number 0 says
 -- that every rule passes. Each is by induction on the list; set-up's ten rules are the instance at the end.
-use Prim.Native.Nat.{ℕ, _<_}
+use Prim.Native.Nat.{ℕ, zero, suc, _<_}
 use native.Mathlib.Nat.{lt-irrefl}
-use lib.Dec.{lit<}
+use native.Mathlib.Omega.{arith}
+use borrow.Author.Tests.{eq-eqb, ne-eqb}
+use lib.Dec.{eqb, lit<}
 use mathlib.Core.Path.{_≡_, refl, sym, ap, _∙_, subst}
+use mathlib.Core.Bool.{Bool, true, false, cond}
 use mathlib.Core.List.{List, [], _∷_, _++_}
-use Rattle.circuit.specs.Numbers.{Report, Verdict, passes, fails, Rule, report, done, judge, of}
+use Rattle.circuit.specs.Numbers.{Report, Verdict, passes, fails, Rule, report, done, judge, of, unless}
 use Rattle.circuit.specs.Record.{formRule, rateRule, childrenRule, usedOnceRule, inputAndTapRule, valueRule, recordRules}
 use Rattle.circuit.specs.Curve.{columnRule}
 use Rattle.circuit.specs.SetUp.{portResistanceRule, ratioRule, curveResistanceRule, portRules, setUpRules, setUpReport}
@@ -42,6 +45,19 @@ module _ {A : Type 0} where
   unfolding judge
   pass-done [] a h = refl
   pass-done (r ∷ rs) a h = judge-pass r rs a (h .0) ∙ pass-done rs a (h .1)
+
+  -- some rules and more pass where both do
+  pub pass-both : (rs ss : List (Rule A)) (a : A) → Pass (rs ++ ss) a → Pass rs a × Pass ss a
+  pass-both [] ss a h = (tt, h)
+  pass-both (r ∷ rs) ss a h = let later = pass-both rs ss a (h .1) in ((h .0, later .0), later .1)
+
+  pub both-pass : (rs ss : List (Rule A)) (a : A) → Pass rs a → Pass ss a → Pass (rs ++ ss) a
+  both-pass [] ss a h k = k
+  both-pass (r ∷ rs) ss a h k = (h .0, both-pass rs ss a (h .1) k)
+
+  pub both-numbered : (rs ss : List (Rule A)) → Numbered rs → Numbered ss → Numbered (rs ++ ss)
+  both-numbered [] ss h k = k
+  both-numbered (r ∷ rs) ss h k = (h .0, both-numbered rs ss (h .1) k)
 
   -- the rule that decides, after those that pass
   pub judge-at : (rs : List (Rule A)) (r : Rule A) (ss : List (Rule A)) (a : A) (p : ℕ) → Pass rs a → r .check a ≡ fails p
@@ -81,6 +97,41 @@ module _ {A : Type 0} where
   pub zero-done : (rs : List (Rule A)) (a : A) → Numbered rs → judge rs a .number ≡ 0 → judge rs a ≡ done
   zero-done rs a n e = pass-done rs a (zero-pass rs a n e)
 
+-- ---- one report, or another
+
+-- a report, and where its number is 0 the next
+infixr 5 _orElse_
+abbrev pub _orElse_ : Report → Report → Report
+m orElse n = cond (eqb (m .number) 0) n m
+
+module _ (m n : Report) where
+  pub else-next : m .number ≡ 0 → m orElse n ≡ n
+  else-next e = rw (eq-eqb (m .number) 0 e)
+
+  pub else-first : 0 < m .number → m orElse n ≡ m
+  else-first l = rw (ne-eqb (m .number) 0 (λ e. omega arith))
+
+  pub else-zero : (m orElse n) .number ≡ 0 → (m .number ≡ 0) × (n .number ≡ 0)
+  else-zero = by (m .number) refl
+    where
+      by : (k : ℕ) → m .number ≡ k → (m orElse n) .number ≡ 0 → (m .number ≡ 0) × (n .number ≡ 0)
+      by zero e z = (e, rw (else-next e) at z)
+      by (suc k) e z = let y = rw (else-first (omega arith)) at z in absurd (omega arith)
+
+module _ {A : Type 0} where
+  pub judge-append : (rs ss : List (Rule A)) (a : A) → Numbered rs → judge (rs ++ ss) a ≡ judge rs a orElse judge ss a
+  judge-append rs ss a h = by (judge rs a .number) refl
+    where
+      by : (n : ℕ) → judge rs a .number ≡ n → judge (rs ++ ss) a ≡ judge rs a orElse judge ss a
+      by zero e = judge-rest rs ss a (zero-pass rs a h e) ∙ sym (else-next (judge rs a) (judge ss a) e)
+      by (suc k) e = let l : 0 < judge rs a .number = omega arith in judge-stop rs ss a l ∙ sym (else-first (judge rs a) (judge ss a) l)
+
+  -- one rule, which is a test
+  pub judge-test : (r : Rule A) (a : A) (b : Bool) (p : ℕ) → r .check a ≡ unless b p → judge (r ∷ []) a ≡ cond b done (report (r .number) p)
+  unfolding judge
+  judge-test r a true p e = judge-pass r [] a e
+  judge-test r a false p e = judge-fail r [] a p e
+
 -- ---- the same rules, of what `f` makes
 
 module _ {A B : Type 0} (f : B → A) where
@@ -94,6 +145,19 @@ module _ {A B : Type 0} (f : B → A) where
   unfolding of
   pass-of [] b h = tt
   pass-of (r ∷ rs) b h = (h .0, pass-of rs b (h .1))
+
+  pub of-pass : (rs : List (Rule A)) (b : B) → Pass (of f rs) b → Pass rs (f b)
+  unfolding of
+  of-pass [] b h = tt
+  of-pass (r ∷ rs) b h = (h .0, of-pass rs b (h .1))
+
+  pub of-numbered : (rs : List (Rule A)) → Numbered rs → Numbered (of f rs)
+  unfolding of
+  of-numbered [] h = tt
+  of-numbered (r ∷ rs) h = (h .0, of-numbered rs (h .1))
+
+  pub judge-of-append : (rs : List (Rule A)) (ss : List (Rule B)) (b : B) → Numbered rs → judge (of f rs ++ ss) b ≡ judge rs (f b) orElse judge ss b
+  judge-of-append rs ss b h = judge-append (of f rs) ss b (of-numbered rs h) ∙ ap (λ m. m orElse judge ss b) (judge-of rs b)
 
 -- ---- set-up's rules
 

@@ -1,8 +1,6 @@
 -- Which lines a file's listing has, by the number that reading hands back; and where they stand after `list`.
 use Prim.Native.Nat.{ℕ, _≤_}
-use native.Mathlib.Nat.{zero-add}
-use native.Mathlib.Omega.{arith}
-use lib.ListN.{length, length-append}
+use lib.ListN.{length}
 use borrow.Author.Tests.{ne-eqb, eq-eqb}
 use mathlib.Core.Path.{_≡_, sym, ap, _∙_}
 use mathlib.Core.List.{List}
@@ -13,6 +11,7 @@ use Rattle.circuit.specs.Listing.{acceptedLines, refusedLine, listing}
 use Rattle.circuit.specs.Promises.{Lists}
 use Rattle.file.proofs.Judged.{read-judged, read-on}
 use Rattle.listing.specs.Writing.{Puts}
+use Rattle.listing.proofs.Texts.{puts-as, starts, starts-bytes, ends-within}
 
 module _ (s : List ℕ) where
   -- a file that reading accepts holds a record that set-up accepts
@@ -29,10 +28,8 @@ module _ (s : List ℕ) where
 
   -- the listing, at the start of the buffer
   pub lists : {most n : ℕ} {t out after : List ℕ} → t ≡ listing s → Puts most t 0 out n after → Lists s out n after
-  lists e p =
-      let q = rw e at p in
-      record { size = rw zero-add at (q .ends); text = rw zero-add at (q .bytes) }
+  lists e p = let q = puts-as p e in record { size = starts q; text = starts-bytes q }
 
 -- so it ends within the buffer
 pub listed-inside : {bytes before after : List ℕ} {n : ℕ} → Lists bytes before n after → n ≤ length after
-listed-inside {bytes} {before} h = omega (arith, h .size, simp length-append at (ap length (h .text)))
+listed-inside {bytes} {before} h = ends-within (listing bytes) before (h .size) (h .text)

@@ -1,6 +1,6 @@
 -- Laws of a text in a buffer: no text, one byte, one text after another, and a looser bound; and of a number's digits, one by one.
 use Prim.Native.Nat.{ℕ, zero, suc, _+_, _-_, _/_, _%_, _≤_, _<_}
-use native.Mathlib.Nat.{add-zero, add-assoc, le-refl}
+use native.Mathlib.Nat.{zero-add, add-zero, add-assoc, le-refl}
 use native.Mathlib.Numerals.{add-one}
 use native.Mathlib.Omega.{arith}
 use mathlib.Core.Path.{_≡_, refl, sym, ap, _∙_}
@@ -64,6 +64,18 @@ module _ {m : ℕ} {t out mid : List ℕ} {at n : ℕ} (p : Puts m t at out n mi
             ∙ ap (λ (s : List ℕ). take at out ++ t ++ u ++ s) back
             ∙ ap (λ (s : List ℕ). s ++ drop (at + length t + length u) out) (append-assoc (take at out) t u));
       }
+
+-- ---- a text at the start of a buffer
+
+module _ {most n : ℕ} {t out after : List ℕ} (p : Puts most t 0 out n after) where
+  pub starts : n ≡ length t
+  starts = rw zero-add at (p .ends)
+
+  pub starts-bytes : after ≡ t ++ drop (length t) out
+  starts-bytes = rw zero-add at (p .bytes)
+
+pub ends-within : {n : ℕ} (t before : List ℕ) {after : List ℕ} → n ≡ length t → after ≡ t ++ drop (length t) before → n ≤ length after
+ends-within t before size bytes = omega (arith, simp length-append at (ap length bytes))
 
 -- ---- the digits of a number
 

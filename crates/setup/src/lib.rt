@@ -29,7 +29,7 @@ use search::Fault;
 use search::lowest_fault;
 
 // One answer, and where it is done another.
-fn first(a: Answer, b: Answer) -> Answer
+pub fn first(a: Answer, b: Answer) -> Answer
     ensures { λ r. ⌜ r ≡ firstOf a b ⌝ }
 {
     if answer::number(a) == 0 { b } else { a }

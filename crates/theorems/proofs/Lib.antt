@@ -2,6 +2,7 @@ pub mod Straying
 pub mod Bound
 pub mod Tight
 pub mod Cutting
+pub mod Takes
 pub mod RunBound
 pub mod Curve
 pub mod OneAnswer

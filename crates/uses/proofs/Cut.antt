@@ -121,7 +121,7 @@ module _ {r : Record} {ws xs os : List ℤ} {at : ℕ} {p : Progress} {o : List 
     judged : judge runRules whole .number ≡ 0
     judged =
         let h = zero-allowed front (ran-judged front front-done) in
-        ap (λ s. s .number) (allowed-done whole (record { setUp = h .setUp; waves = h .waves; equal = first .equal }))
+        ap (λ s. s .number) (allowed-done whole (record { cleared = h .cleared; equal = first .equal }))
 
     pub place-inside : later (p .done) (handed (q .answer)) .place ≤ length xs
     place-inside = rw (← told) (ran-place whole judged)

@@ -2,53 +2,82 @@
 use Prim.Native.Nat.{_<_}
 use native.Mathlib.Omega.{arith}
 use mathlib.Core.Path.{_≡_, refl, sym, ap, _∙_}
+use mathlib.Core.List.{[]}
+use lib.Dec.{lit<}
 use borrow.Author.Needs.{needs}
-use Rattle.circuit.specs.Numbers.{handed, done, judge}
-use Rattle.circuit.specs.SetUp.{setUpReport, setUpRows, preparedRows}
-use Rattle.circuit.specs.Run.{Call, runRules, Ran, ran, turnedAway, call}
-use Rattle.circuit.specs.declared.Record.{Record}
-use Rattle.laws.proofs.Running.{zero-allowed, ran-refused}
+use borrow.Author.Tests.{ne-eqb}
+use Rattle.circuit.specs.Numbers.{handed, rule, judge, unless}
+use Rattle.circuit.specs.Run.{Call, charged, chargedRules, lengthsRule, runRules, Ran, ran, turnedAway, call}
+use Rattle.circuit.specs.Promises.{Runs}
+use Rattle.circuit.specs.declared.Answer.{Answer}
+use Rattle.circuit.specs.declared.Answer.the-variants.{Lengths}
+use Rattle.circuit.specs.declared.Progress.{Progress}
+use Rattle.circuit.specs.declared.State.{State}
+use Rattle.laws.proofs.Judging.{judge-fail, else-next, else-first}
+use Rattle.laws.proofs.Running.{run-judged, ran-refused}
 use Rattle.laws.proofs.Sizes.{sized}
 use Rattle.engine.proofs.Holding.{state-sized}
+use Rattle.engine.proofs.Loading.{playable}
 use Rattle.engine.proofs.run.Statement.{statement}
 use Rattle.engine.proofs.run.Tie as tie
 
 abbrev called : tie.Start → Call
 called c = call (c .args .r) (c .args .state .waves) (c .args .input .now) (c .args .output .now)
 
--- 4 to 13 of this call
-judged : (c : tie.After-refusal) → handed (c .refusal .result) ≡ judge runRules (called (c .before .before .before))
-judged c = c .refusal .ensures (c .before .before .before .args .input .now) (c .before .before .before .args .output .now) refl refl
-
-returns : tie.Need-returns
-returns c =
-    let start = c .before .before .before .before .before in
-    let j = judged (c .before .before) in
-    let above : 0 < judge runRules (called start) .number = rw (← j) (omega (arith, c .before .number .ensures, c .if1 .taken)) in
-    let e : ran (called start) ≡ turnedAway (called start) (judge runRules (called start)) = ran-refused (called start) above in
+-- what is handed back of a call that is refused before its first sample
+away : (k : Call) (a : Answer) (s : State) {p : Progress} → p ≡ record { answer = a; done = 0; state = s } → s .waves ≡ k .waves
+    → handed a ≡ judge runRules k → 0 < handed a .number → Runs k p (k .output)
+away k a s told same j l =
+    let e : ran k ≡ turnedAway k (judge runRules k) = ran-refused k (rw j at l) in
     record {
-      number = j ∙ sym (ap (λ (t : Ran). t .handedBack) e);
-      samples = sym (ap (λ (t : Ran). t .samples) e);
-      waves = sym (ap (λ (t : Ran). t .waves) e);
+      number = ap (λ (p : Progress). handed (p .answer)) told ∙ j ∙ sym (ap (λ (t : Ran). t .handedBack) e);
+      samples = ap (λ (p : Progress). p .done) told ∙ sym (ap (λ (t : Ran). t .samples) e);
+      waves = ap (λ (p : Progress). p .state .waves) told ∙ same ∙ sym (ap (λ (t : Ran). t .waves) e);
       output = sym (ap (λ (t : Ran). t .output) e);
     }
 
--- none of them applies
-passed : (c : tie.Else1) → judge runRules (called (c .before .before .before .before .before)) .number ≡ 0
-passed c = ap (λ n. n .number) (sym (judged (c .before .before))) ∙ sym (c .before .number .ensures) ∙ c .if1 .left
+returns : tie.Need-returns
+returns c =
+    let checked = c .before .before .before in
+    let s = checked .before in
+    let a = checked .check .result .answer in
+    let j = checked .check .ensures .number in
+    let l : 0 < handed a .number = omega (arith, c .before .before .number .ensures, c .before .if1 .taken) in
+    away (called s) a (s .args .state) (c .turned-away .ensures) refl (j ∙ sym (run-judged (called s) ∙ else-first _ _ (rw j at l))) l
 
--- set-up's rows, where it refuses nothing
-kept-rows : (r : Record) → setUpReport r ≡ done → setUpRows r ≡ preparedRows r
-unfolding setUpRows
-kept-rows r e = rw e
+-- 4 to 12 do not refuse it
+cleared : (c : tie.Else1) → judge chargedRules (charged (called (c .before .before .before))) .number ≡ 0
+cleared c = ap (λ n. n .number) (sym (c .before .before .check .ensures .number)) ∙ sym (c .before .number .ensures) ∙ c .if1 .left
+
+returns-2 : tie.Need-returns-2
+unfolding handed lengthsRule
+returns-2 c =
+    let passed = c .before .before in
+    let s = passed .before .before .before in
+    away (called s) Lengths (s .args .state) (c .turned-away2 .ensures) refl
+    (sym (run-judged (called s) ∙ else-next _ _ (cleared passed) ∙ judge-fail (rule 13 lengthsRule) [] (called s) 0 (ap (λ b. unless b 0) (ne-eqb _ _ (c .before .if2 .taken)))))
+    (lit< tt)
 
 play-requires : tie.Need-play-requires
 play-requires c κs =
-    let start = c .before .before .before .before .before .before in
-    record { sized = sized (start .args .r) _ (start .good .0); stored = state-sized (start .args .state) _ (start .good .1 .0); prepared = c .before .before .before .before .before .set-up .ensures .rows ∙ kept-rows (start .args .r) (zero-allowed (called start) (passed (c .before)) .setUp); allowed = passed (c .before) }
-
-returns-2 : tie.Need-returns-2
-returns-2 c = c .before .play .ensures
+    let even = c .before .before in
+    let passed = even .before in
+    let checked = passed .before .before in
+    let s = checked .before in (
+      playable (charged (called s)) _ (sized (s .args .r) _ (s .good .0)) (state-sized (s .args .state) _ (s .good .1 .0)) (checked .check .ensures .rows) (cleared passed),
+      even .if2 .left,
+    )
 
 pub run-spec : {M : Type 1} → statement M
-run-spec = tie.close (tie.spec (λ c κs. search needs) (λ c κs. search needs) (λ c κs. search needs) returns play-requires (λ c. search needs) returns-2)
+run-spec =
+    tie.close
+    (tie.spec
+    (λ c κs. search needs)
+    (λ c κs. search needs)
+    (λ c κs. search needs)
+    returns
+    (λ c κs. search needs)
+    returns-2
+    play-requires
+    (λ c. search needs)
+    (λ c. search needs))

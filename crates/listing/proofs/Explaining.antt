@@ -1,0 +1,52 @@
+-- The words of an answer: which line of the words of all answers they are, and where they stand after `explain`.
+use Prim.Native.Nat.{ℕ, _≤_}
+use mathlib.Core.Path.{_≡_, refl}
+use mathlib.Core.List.{List, [], _∷_, map}
+use lib.Dec.{lit≤}
+use lib.ListN.{length}
+use Rattle.circuit.specs.Numbers.{handed}
+use Rattle.circuit.specs.Text.{text}
+use Rattle.circuit.specs.Words.{meaning}
+use Rattle.circuit.specs.File.{concat}
+use Rattle.circuit.specs.Listing.{listingRoom}
+use Rattle.circuit.specs.Promises.{Explains}
+use Rattle.circuit.specs.declared.Answer.{Answer}
+use Rattle.circuit.specs.declared.Answer.the-variants.{Done, Length, Check, Version, Form, Rate, Tree, Value, Resistance, Ratio, Curve, Fit, Waves, Lengths, Sample, Overload, Room, LeftOver}
+use Rattle.listing.specs.Writing.{Puts}
+use Rattle.listing.specs.Numbered.{lineLength, lineStart, line}
+use Rattle.listing.proofs.Texts.{starts, starts-bytes, ends-within}
+
+-- the words of all answers, in the order of their numbers
+unfoldable pub allWords : List ℕ
+allWords =
+    concat (map meaning (
+    Done ∷ Length ∷ Check 0 ∷ Version ∷ Form ∷ Rate ∷ Tree 0 ∷ Value 0 ∷ Resistance 0 ∷ Ratio 0 ∷ Curve 0 ∷ Fit ∷ Waves 0 ∷ Lengths ∷ Sample 0 ∷ Overload 0 ∷ Room ∷ LeftOver 0 ∷ []
+    ))
+
+-- an answer's words are the line with its number, and there is room for them
+pub numbered : (a : Answer) → (line allWords (handed a .number) ≡ meaning a) × (length (meaning a) ≤ listingRoom)
+unfolding allWords meaning text concat handed lineLength lineStart
+numbered Done = (refl, lit≤ tt)
+numbered Length = (refl, lit≤ tt)
+numbered (Check block) = (refl, lit≤ tt)
+numbered Version = (refl, lit≤ tt)
+numbered Form = (refl, lit≤ tt)
+numbered Rate = (refl, lit≤ tt)
+numbered (Tree row) = (refl, lit≤ tt)
+numbered (Value row) = (refl, lit≤ tt)
+numbered (Resistance row) = (refl, lit≤ tt)
+numbered (Ratio row) = (refl, lit≤ tt)
+numbered (Curve column) = (refl, lit≤ tt)
+numbered Fit = (refl, lit≤ tt)
+numbered (Waves row) = (refl, lit≤ tt)
+numbered Lengths = (refl, lit≤ tt)
+numbered (Sample index) = (refl, lit≤ tt)
+numbered (Overload index) = (refl, lit≤ tt)
+numbered Room = (refl, lit≤ tt)
+numbered (LeftOver samples) = (refl, lit≤ tt)
+
+pub explains : {a : Answer} {most n : ℕ} {out after : List ℕ} → Puts most (meaning a) 0 out n after → Explains a out n after
+explains p = record { size = starts p; text = starts-bytes p }
+
+pub explained-inside : {a : Answer} {before after : List ℕ} {n : ℕ} → Explains a before n after → n ≤ length after
+explained-inside {a} {before} h = ends-within (meaning a) before (h .size) (h .text)

@@ -1,0 +1,3 @@
+mod Bytes
+mod Deciding
+mod Feeding
