@@ -3,7 +3,8 @@ use circuit::LEFT_LIMIT;
 use circuit::SAMPLE_LENGTH;
 ghost use Prim.Native.Nat.{_≤_};
 ghost use mathlib.Core.Path.{_≡_};
-ghost use mathlib.Core.List.{_++_};
+ghost use mathlib.Core.Bool.{cond};
+ghost use mathlib.Core.List.{[], _++_};
 ghost use lib.ListN.{length, getD, take};
 ghost use Rattle.circuit.specs.Take.{leftLimit, leftOver};
 ghost use Rattle.circuit.specs.File.{zeros};
@@ -29,7 +30,7 @@ fn byte_at(left: [u8; LEFT_LIMIT], count: usize, more: &[u8], at: usize) -> u8
 }
 
 // What is left over after the last whole sample.
-pub(crate) fn left_over(left: [u8; LEFT_LIMIT], count: usize, more: &[u8]) -> Rest
+fn left_over(left: [u8; LEFT_LIMIT], count: usize, more: &[u8]) -> Rest
     requires { ⌜ count ≤ leftLimit ⌝ }
     ensures bytes { λ r. ⌜ r .bytes ≡ take leftLimit (leftOver (take count left ++ now (more .entry)) ++ zeros leftLimit) ⌝ }
     ensures count { λ r. ⌜ r .count ≡ length (leftOver (take count left ++ now (more .entry))) ⌝ }
@@ -41,5 +42,21 @@ pub(crate) fn left_over(left: [u8; LEFT_LIMIT], count: usize, more: &[u8]) -> Re
     Rest {
         bytes: [first, second],
         count: (count + more.len() - at) as u8,
+    }
+}
+
+// What a call leaves over: nothing after a refused sample.
+pub(crate) fn left_after(all: bool, left: [u8; LEFT_LIMIT], count: usize, more: &[u8]) -> Rest
+    requires { ⌜ count ≤ leftLimit ⌝ }
+    ensures bytes { λ r. ⌜ r .bytes ≡ take leftLimit (cond all (leftOver (take count left ++ now (more .entry))) [] ++ zeros leftLimit) ⌝ }
+    ensures count { λ r. ⌜ r .count ≡ length (cond all (leftOver (take count left ++ now (more .entry))) []) ⌝ }
+{
+    if all {
+        left_over(left, count, more)
+    } else {
+        Rest {
+            bytes: [0; LEFT_LIMIT],
+            count: 0,
+        }
     }
 }

@@ -13,7 +13,7 @@ use circuit::Carried;
 use circuit::Feed;
 use circuit::LEFT_LIMIT;
 use circuit::Record;
-use left::left_over;
+use left::left_after;
 use rules::end_rule;
 use rules::own_rules;
 use rules::room_rule;
@@ -58,7 +58,7 @@ fn work(r: Record, carried: Carried, bytes: &[u8], out: &mut [u8]) -> Feed
     let done = carried.done + progress.done as u64;
     let number = answer::number(answer);
     if number == 0 {
-        let rest = left_over(left, count, bytes);
+        let rest = left_after(true, left, count, bytes);
         let kept = rest.bytes;
         return Feed {
             answer: Answer::Done,
@@ -73,13 +73,15 @@ fn work(r: Record, carried: Carried, bytes: &[u8], out: &mut [u8]) -> Feed
         };
     }
     if number == 15 {
+        let rest = left_after(false, left, count, bytes);
+        let kept = rest.bytes;
         return Feed {
             answer: Answer::Overload(done as usize),
             done: progress.done,
             carried: Carried {
                 state: after,
-                left: [0; LEFT_LIMIT],
-                count: 0,
+                left: kept,
+                count: rest.count,
                 done,
                 held: 15,
             },

@@ -51,13 +51,15 @@ returns c =
     let rest = c .before in
     let at = rest .before .before in
     feeds _ _ _ _ (fed-played (ran (run at)) 0 (number at ∙ rest .before .if1 .taken) (inl refl)) refl refl
-    (rw (rest .left-over .ensures .0, rest .left-over .ensures .1)) refl
+    (rw (rest .left-after .ensures .0, rest .left-after .ensures .1)) refl
 
 returns-2 : tie.Need-returns-2
 unfolding handed
 returns-2 c =
-    let at = c .before .before in
-    feeds _ _ _ _ (fed-played (ran (run at)) 15 (number at ∙ c .if2 .taken) (inr refl)) refl refl refl refl
+    let rest = c .before in
+    let at = rest .before .before .before in
+    feeds _ _ _ _ (fed-played (ran (run at)) 15 (number at ∙ rest .before .if2 .taken) (inr refl)) refl refl
+    (rw (rest .left-after2 .ensures .0, rest .left-after2 .ensures .1)) refl
 
 returns-3 : tie.Need-returns-3
 returns-3 c =
@@ -79,6 +81,7 @@ work-spec =
     (λ c κs. search needs)
     (λ c. search needs)
     returns
+    (λ c κs. search needs)
     (λ c. search needs)
     returns-2
     (λ c κs. search needs)
