@@ -1,6 +1,7 @@
 // The bench: the cases of the paper's table, both sides of each limit, and what a refusal leaves, through the functions that anyone can
 // call. A line says what a case hands back; the last line, how many cases agree with what they should be.
 mod expected;
+mod feeds;
 mod files;
 mod make;
 mod runs;
@@ -16,5 +17,6 @@ fn main() {
     let t = samples::cases(t);
     let t = runs::cases(t);
     let t = files::cases(t);
+    let t = feeds::cases(t);
     tally::shown(t);
 }

@@ -1,4 +1,4 @@
--- The lines of a text, by number from 0: each ends in a newline.
+-- The lines of a text, by number from 0. Each ends in a newline, which is 10.
 use Prim.Native.Nat.{ℕ, zero, suc, _+_, _-_}
 use mathlib.Core.Bool.{cond}
 use mathlib.Core.List.{List, [], _∷_}

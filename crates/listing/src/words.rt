@@ -37,7 +37,10 @@ fn put_line(out: &mut [u8], lines: &[u8], k: u64) -> usize
     put_text(out, 0, &lines[from..to])
 }
 
-// The words at the start of `out`, and their length. The bytes after them stay as they were. There is a line for each number, from 0.
+// The words at the start of `out`, and their length. The bytes after them stay as they were.
+//
+// The text has a line for each number, from 0. Every text of a function stands in each step of its proof, so a match with a text to an arm
+// would take several times as long to check.
 pub fn explain(a: Answer, out: &mut Page) -> usize
     ensures { λ n. ⌜ Explains a (now (out .entry)) n (now (out .exit)) ⌝ }
 {

@@ -15,13 +15,13 @@ use Rattle.listing.proofs.words.explain.Tie as tie
 words : (c : tie.After-number) → line allWords (c .number .result) ≡ meaning (c .before .args .a)
 words c = ap (line allWords) (c .number .ensures) ∙ numbered (c .before .args .a) .0
 
-put-line-requires : tie.Need-put-line-requires
-unfolding allWords meaning text concat
-put-line-requires c κs = omega (arith, ap length (words (c .before .before)), numbered (c .before .before .before .args .a) .1)
-
 returns : tie.Need-returns
 unfolding allWords meaning text concat
 returns c = explains (puts-as (c .put-line .ensures) (words (c .before .before .before)))
+
+put-line-requires : tie.Need-put-line-requires
+unfolding allWords meaning text concat
+put-line-requires c κs = omega (arith, ap length (words (c .before .before)), numbered (c .before .before .before .args .a) .1)
 
 pub explain-spec : {M : Type 1} → statement M
 explain-spec = tie.close (tie.spec (λ c κs. search needs) (λ c. search needs) put-line-requires returns)
