@@ -1,5 +1,5 @@
 #!/usr/bin/env python3
-# Writes tone.raw, a take of 960 samples: a tone of 200 Hz at 48,000 samples a second that dies away from 3 V. A sample is three bytes, signed,
+# Writes tone.raw, a take of 960 samples: a tone of 200 Hz at 48,000 samples a second, whose amplitude falls from 3 V. A sample is three bytes, signed,
 # the lowest first, in microvolts. From the repository's root:
 #
 #     python3 takes/tone.py > takes/tone.raw

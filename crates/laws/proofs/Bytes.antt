@@ -101,11 +101,6 @@ module _ (s t : List ℕ) where
   unfolding leftOver
   leftOver-append = rw (count, past more)
 
--- fewer than three bytes are left over
-pub leftOver-few : (s : List ℕ) → length s ≤ leftLimit → leftOver s ≡ s
-unfolding leftOver
-leftOver-few s l = let none : length s / sampleLength ≡ 0 = omega arith in rw none
-
 -- what a take carries of the bytes left over
 pub left-carried : (s : List ℕ) → length s ≤ leftLimit → take (length s) (take leftLimit (s ++ zeros leftLimit)) ≡ s
 left-carried s l = take-take (length s) leftLimit (s ++ zeros leftLimit) l ∙ take-append-seam s (zeros leftLimit)

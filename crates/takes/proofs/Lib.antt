@@ -1,3 +1,3 @@
-mod Bytes
-mod Deciding
+pub mod Bytes
+pub mod Deciding
 mod Feeding

@@ -156,7 +156,7 @@ module _ (r : Record) (c : Carried) (p : TakePiece) (ps : List TakePiece) where
 
 -- ---- any number of calls
 
-one-call : (r : Record) (c : Carried) (p : TakePiece) (ps : List TakePiece)
+pub one-call : (r : Record) (c : Carried) (p : TakePiece) (ps : List TakePiece)
     → judge takeRules (takeOf r c) .number ≡ 0
     → Roomy r c (p ∷ ps)
     → c .done + length (samplesOf (joined c (allBytes (p ∷ ps)))) ≤ takeLimit

@@ -1,21 +1,24 @@
--- What the uses promise: the theorems of reading and writing and of a run, said of what is handed back and left.
-use Prim.Native.Nat.{ℕ, _<_}
+-- What the uses promise: the theorems of reading and writing and of a run, said of what is handed back and left; and where a take can be cut.
+use Prim.Native.Nat.{ℕ, _+_, _/_, _<_}
 use mathlib.Core.Path.{_≡_}
-use mathlib.Core.Bool.{cond}
+use mathlib.Core.Bool.{Bool, _&&_, cond}
 use mathlib.Core.List.{List, [], _∷_, _++_}
-use lib.Dec.{eqb}
+use lib.Dec.{eqb, leb}
 use lib.ListN.{getD}
 use lib.IntN.{ℤ, pos}
 use Rattle.circuit.specs.Numbers.{Rule, handed, rule, judge, of}
 use Rattle.circuit.specs.SetUp.{setUpReport}
 use Rattle.circuit.specs.File.{noRecord, fileLengthRule, readRules}
 use Rattle.circuit.specs.Run.{Call}
+use Rattle.circuit.specs.Take.{sampleLength, leftLimit, takeLimit}
 use Rattle.circuit.specs.Promises.{Runs}
 use Rattle.circuit.specs.declared.Answer.{Answer}
+use Rattle.circuit.specs.declared.Carried.{Carried}
 use Rattle.circuit.specs.declared.Record.{Record}
 use Rattle.circuit.specs.declared.Reading.{Reading}
 use Rattle.circuit.specs.declared.Progress.{Progress}
 use Rattle.theorems.specs.Limit.{wavesAfter, Bounded}
+use Rattle.takes.specs.Own.{roomFor}
 
 -- ---- a file read, and its record written
 
@@ -39,6 +42,12 @@ pub record Rewrites (w : RewriteCall) (a : Answer) (after : List ℕ) : Type 0 w
 pub record Rereads (r : Record) (s : Reading) : Type 0 where
   pub number : handed (s .answer) ≡ setUpReport r
   pub circuit : s .«record» ≡ cond (eqb (setUpReport r .number) 0) r noRecord
+
+-- ---- a call of a take that can be cut
+
+-- of n bytes and m of room, at byte `at`
+abbrev pub canCut : Carried → ℕ → ℕ → ℕ → Bool
+canCut c n m at = leb (c .done + (c .count + n) / sampleLength) takeLimit && leb at n && leb (c .count) leftLimit && eqb m (roomFor n c)
 
 -- ---- a run beside the unrounded samples
 

@@ -2,19 +2,27 @@
 // is a theorem about them.
 
 use circuit::Answer;
+use circuit::Carried;
 use circuit::FILE_LENGTH;
+use circuit::Feed;
+use circuit::LEFT_LIMIT;
+use circuit::OUTPUT_LENGTH;
 use circuit::Progress;
 use circuit::Reading;
 use circuit::Record;
+use circuit::SAMPLE_LENGTH;
 use circuit::State;
+use circuit::TAKE_LIMIT;
 ghost use mathlib.Core.Path.{_≡_};
 ghost use Prim.Native.Nat.{_<_, _^_};
+ghost use lib.ListN.{length};
 ghost use Rattle.circuit.specs.Numbers.{handed};
 ghost use Rattle.circuit.specs.File.{fileLength, zeros};
 ghost use Rattle.circuit.specs.Run.{call};
-ghost use Rattle.circuit.specs.Promises.{Runs};
+ghost use Rattle.circuit.specs.Take.{feeding};
+ghost use Rattle.circuit.specs.Promises.{Runs, Feeds};
 ghost use Rattle.theorems.specs.Pieces as Pieces;
-ghost use Rattle.uses.specs.Promises.{Rewrites, Rereads, RunsBounded};
+ghost use Rattle.uses.specs.Promises.{Rewrites, Rereads, canCut, RunsBounded};
 
 // Reading and then writing gives the same bytes: an accepted file is written as it was read, and a refused one leaves `out` as it is.
 pub fn rewrite(bytes: &[u8], out: &mut [u8]) -> Answer
@@ -82,6 +90,46 @@ pub fn run_in_two(r: Record, state: State, input: &[i32], output: &mut [i32], at
         answer,
         done: done + second.done,
         state,
+    }
+}
+
+// Whether a call of a take can be cut at byte `at`: the cut is inside, 16 does not apply, and the take keeps its limit. That is looked at only
+// where a call begins, so that past it a second call would be refused where one call is not.
+fn can_cut(carried: Carried, bytes: &[u8], room: usize, at: usize) -> bool
+    ensures { λ b. ⌜ b ≡ canCut carried (length (now (bytes .entry))) room at ⌝ }
+{
+    if TAKE_LIMIT < carried.done {
+        return false;
+    }
+    let count = carried.count as usize;
+    let whole = (count + bytes.len()) / SAMPLE_LENGTH;
+    let kept = carried.done + whole as u64 <= TAKE_LIMIT;
+    kept & (at <= bytes.len()) & (count <= LEFT_LIMIT) & (room == OUTPUT_LENGTH * whole)
+}
+
+// Cutting a call of a take changes nothing: a call in two calls, cut at byte `at`, which may be inside a sample, promises what one call does.
+pub fn feed_in_two(r: Record, carried: Carried, bytes: &[u8], out: &mut [u8], at: usize) -> Feed
+    ensures { λ f. ⌜ Feeds (feeding r carried (now (bytes .entry)) (now (out .entry))) f (now (out .exit)) ⌝ }
+{
+    if !can_cut(carried, bytes, out.len(), at) {
+        return takes::feed(r, carried, bytes, out);
+    }
+    let count = carried.count as usize;
+    let cut = OUTPUT_LENGTH * ((count + at) / SAMPLE_LENGTH);
+    let first = takes::feed(r, carried, &bytes[..at], &mut out[..cut]);
+    let answer = first.answer;
+    if answer::number(answer) != 0 {
+        return first;
+    }
+    let between = first.carried;
+    let second = takes::feed(r, between, &bytes[at..], &mut out[cut..]);
+    let answer = second.answer;
+    let carried = second.carried;
+    let done = first.done + second.done;
+    Feed {
+        answer,
+        done,
+        carried,
     }
 }
 
