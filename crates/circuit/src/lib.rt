@@ -50,7 +50,7 @@ pub const OUTPUT_LENGTH: usize = 4;
 
 pub const LEFT_LIMIT: usize = 2;
 
-// Whole samples of a take.
+// Whole samples of a take: 2^62.
 pub const TAKE_LIMIT: u64 = 4611686018427387904;
 
 // A leaf: ohms, farads or henries. A steady source also has its microvolts.
