@@ -19,6 +19,11 @@ abbrev pub Pass : {A : Type 0} → List (Rule A) → A → Type 0
 Pass [] a = Unit {0}
 Pass (r ∷ rs) a = (r .check a ≡ passes) × Pass rs a
 
+-- every number is below m
+abbrev pub Below : {A : Type 0} → ℕ → List (Rule A) → Type 0
+Below m [] = Unit {0}
+Below m (r ∷ rs) = (r .number < m) × Below m rs
+
 -- every number is above 0
 abbrev pub Numbered : {A : Type 0} → List (Rule A) → Type 0
 Numbered [] = Unit {0}
@@ -97,6 +102,17 @@ module _ {A : Type 0} where
   pub zero-done : (rs : List (Rule A)) (a : A) → Numbered rs → judge rs a .number ≡ 0 → judge rs a ≡ done
   zero-done rs a n e = pass-done rs a (zero-pass rs a n e)
 
+  -- ---- numbers below m
+
+  pub judge-below : (m : ℕ) (rs : List (Rule A)) (a : A) → 0 < m → Below m rs → judge rs a .number < m
+  unfolding judge
+  judge-below m [] a l h = l
+  judge-below m (r ∷ rs) a l h = by (r .check a) refl (judge-below m rs a l (h .1))
+    where
+      by : (v : Verdict) → r .check a ≡ v → judge rs a .number < m → judge (r ∷ rs) a .number < m
+      by passes e later = rw (judge-pass r rs a e) later
+      by (fails p) e later = rw (judge-fail r rs a p e) (h .0)
+
 -- ---- one report, or another
 
 -- a report, and where its number is 0 the next
@@ -117,6 +133,20 @@ module _ (m n : Report) where
       by : (k : ℕ) → m .number ≡ k → (m orElse n) .number ≡ 0 → (m .number ≡ 0) × (n .number ≡ 0)
       by zero e z = (e, rw (else-next e) at z)
       by (suc k) e z = let y = rw (else-first (omega arith)) at z in absurd (omega arith)
+
+pub else-assoc : (l m n : Report) → (l orElse m) orElse n ≡ l orElse (m orElse n)
+else-assoc l m n = by (l .number) refl
+  where
+    by : (k : ℕ) → l .number ≡ k → (l orElse m) orElse n ≡ l orElse (m orElse n)
+    by zero z = rw z refl
+    by (suc k) z = let above : 0 < l .number = omega arith in rw (else-first l m above, else-first l n above, else-first l (m orElse n) above) refl
+
+pub else-same : (m n o : Report) → (m .number ≡ 0 → n ≡ o) → m orElse n ≡ m orElse o
+else-same m n o h = by (m .number) refl
+  where
+    by : (k : ℕ) → m .number ≡ k → m orElse n ≡ m orElse o
+    by zero z = ap (λ x. m orElse x) (h z)
+    by (suc k) z = let above : 0 < m .number = omega arith in else-first m n above ∙ sym (else-first m o above)
 
 module _ {A : Type 0} where
   pub judge-append : (rs ss : List (Rule A)) (a : A) → Numbered rs → judge (rs ++ ss) a ≡ judge rs a orElse judge ss a

@@ -1,22 +1,21 @@
 -- What decides a call and the ending of a take: 4 to 12 of the circuit first, then 12 and 15 of what is carried, then 16 or 17.
-use Prim.Native.Nat.{ℕ, zero, suc, _+_, _*_, _/_, _<_, _≤_}
+use Prim.Native.Nat.{ℕ, suc, _+_, _*_, _/_, _<_, _≤_}
 use native.Mathlib.Omega.{arith}
 use borrow.Author.Tests.{leb-true, eqb-true}
 use mathlib.Core.Path.{_≡_, refl, sym, ap, _∙_}
 use mathlib.Core.Bool.{Bool, true, false, cond, and-eq-true-iff}
-use mathlib.Core.List.{List, [], _∷_}
+use mathlib.Core.List.{List}
 use lib.Dec.{eqb, lit<}
 use lib.ListN.{length}
-use Rattle.circuit.specs.Numbers.{Report, report, done, Verdict, passes, fails, handed, Rule, judge, of, unless}
-use Rattle.circuit.specs.Record.{noRow, recordRules}
-use Rattle.circuit.specs.SetUp.{portRules, setUpRules}
-use Rattle.circuit.specs.Run.{Charged, chargedRules}
+use Rattle.circuit.specs.Numbers.{report, done, handed, judge, of, unless}
+use Rattle.circuit.specs.Record.{noRow}
+use Rattle.circuit.specs.Run.{chargedRules}
 use Rattle.circuit.specs.Take.{sampleLength, outputLength, leftLimit, takeLimit, samplesOf, UnderWay, stored, carriedRule, heldRule, takeRules, Feeding, feeding, underWay, available, feedRules, endRule, ended}
 use Rattle.circuit.specs.declared.Answer.{Answer}
 use Rattle.circuit.specs.declared.Carried.{Carried}
 use Rattle.circuit.specs.declared.Record.{Record}
 use Rattle.laws.proofs.Counting.{unless-passes}
-use Rattle.laws.proofs.Judging.{judge-pass, judge-fail, judge-of, zero-pass, _orElse_, else-next, else-first, else-zero}
+use Rattle.laws.proofs.Judging.{judge-of, zero-pass, _orElse_, else-next, else-zero, else-assoc, else-same}
 use Rattle.laws.proofs.Bytes.{length-samplesOf}
 use Rattle.laws.proofs.Taking.{take-judged, carriedRules, carried-judged, ended-judged, rightRoom, feed-judged}
 use Rattle.setup.specs.Answers.{numbered, firstOf}
@@ -35,20 +34,6 @@ first-handed a b = by (eqb (handed a .number) 0)
 
 pub first-zero : (x a b : Answer) → x ≡ firstOf a b → handed x .number ≡ 0 → (handed a .number ≡ 0) × (handed b .number ≡ 0)
 first-zero x a b e z = else-zero (handed a) (handed b) (rw (e, first-handed) at z)
-
-else-assoc : (l m n : Report) → (l orElse m) orElse n ≡ l orElse (m orElse n)
-else-assoc l m n = by (l .number) refl
-  where
-    by : (k : ℕ) → l .number ≡ k → (l orElse m) orElse n ≡ l orElse (m orElse n)
-    by zero z = rw z refl
-    by (suc k) z = let above : 0 < l .number = omega arith in rw (else-first l m above, else-first l n above, else-first l (m orElse n) above) refl
-
-else-same : (m n o : Report) → (m .number ≡ 0 → n ≡ o) → m orElse n ≡ m orElse o
-else-same m n o h = by (m .number) refl
-  where
-    by : (k : ℕ) → m .number ≡ k → m orElse n ≡ m orElse o
-    by zero z = ap (λ x. m orElse x) (h z)
-    by (suc k) z = let above : 0 < m .number = omega arith in else-first m n above ∙ sym (else-first m o above)
 
 -- one rule, which is a test
 test-told : (n : ℕ) (t : Bool) (p : ℕ) → numbered n (unless t p) ≡ cond t done (report n p)
@@ -119,24 +104,3 @@ module _ (r : Record) (c : Carried) (s o : List ℕ) (sized : length (c .left) �
       (λ z. let few = own-passed c (else-zero (judge chargedRules (stored (underWay call))) (judge ownRules c) (rw take-own at z) .1) .0 in
       g ∙ test-told 16 (eqb (length o) (roomFor (length s) c)) 0 ∙ ap (λ n. cond (eqb (length o) (outputLength * n)) done (report 16 0)) (sym (whole-samples few)))
       ∙ sym (feed-judged call)
-
--- ---- 4 to 12 are below 13
-
-abbrev Below : {A : Type 0} → ℕ → List (Rule A) → Type 0
-Below m [] = Unit {0}
-Below m (r ∷ rs) = (r .number < m) × Below m rs
-
-judge-below : {A : Type 0} (m : ℕ) (rs : List (Rule A)) (a : A) → 0 < m → Below m rs → judge rs a .number < m
-unfolding judge
-judge-below m [] a l h = l
-judge-below m (r ∷ rs) a l h = by (r .check a) refl (judge-below m rs a l (h .1))
-  where
-    by : (v : Verdict) → r .check a ≡ v → judge rs a .number < m → judge (r ∷ rs) a .number < m
-    by passes e later = rw (judge-pass r rs a e) later
-    by (fails p) e later = rw (judge-fail r rs a p e) (h .0)
-
-pub charged-below : (k : Charged) → judge chargedRules k .number < 13
-unfolding chargedRules setUpRules recordRules portRules of
-charged-below k =
-    judge-below 13 chargedRules k (lit< tt)
-    (lit< tt, (lit< tt, (lit< tt, (lit< tt, (lit< tt, (lit< tt, (lit< tt, (lit< tt, (lit< tt, (lit< tt, (lit< tt, tt)))))))))))

@@ -23,11 +23,12 @@ use Rattle.circuit.specs.declared.Record.{Record}
 use Rattle.laws.proofs.Playing.{play-short}
 use Rattle.laws.proofs.Bytes.{samples-number}
 use Rattle.laws.proofs.Judging.{else-first}
+use Rattle.laws.proofs.Charging.{charged-below}
 use Rattle.laws.proofs.Taking.{carriedRules, take-judged, fed-refused, fed-taken}
 use Rattle.engine.specs.Raw.{RawCall, rawCall, RanRaw, rawWorked, rawTurnedAway, ranRaw, RunsRaw}
 use Rattle.engine.proofs.RawRuns.{ran-raw-refused, ran-raw-worked}
 use Rattle.takes.specs.Own.{Ready}
-use Rattle.takes.proofs.Deciding.{charged-below, whole-samples, ready-open}
+use Rattle.takes.proofs.Deciding.{whole-samples, ready-open}
 
 -- ---- what is promised, from what the call makes
 

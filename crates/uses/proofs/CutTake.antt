@@ -1,7 +1,6 @@
 -- A call of a take in two calls, cut at a byte: one of the bytes before it, and one of the rest from what the first carried on. What the two
 -- promise is what one call of all the bytes does.
 use Prim.Native.Nat.{ℕ, zero, suc, _+_, _*_, _/_, _<_, _≤_}
-use native.Mathlib.Nat.{add-zero, pos-of-ne-zero}
 use native.Mathlib.Omega.{arith}
 use borrow.Author.Tests.{leb-true, eqb-true, not-false}
 use mathlib.Core.Path.{_≡_, refl, sym, ap, ap₂, _∙_}
@@ -10,15 +9,15 @@ use mathlib.Core.List.{List, [], _∷_, _++_, append-assoc, append-nil}
 use lib.Dec.{eqb, leb}
 use lib.ListN.{length, take, drop, length-append, length-drop, take-append-drop}
 use lib.Seq.{length-take-le}
-use Rattle.circuit.specs.Numbers.{handed, judge}
-use Rattle.circuit.specs.Take.{sampleLength, outputLength, leftLimit, takeLimit, samplesOf, leftOver, takeOf, takeRules, Feeding, feeding, available, taken, nothingTaken, fed}
+use Rattle.circuit.specs.Numbers.{judge}
+use Rattle.circuit.specs.Take.{sampleLength, outputLength, leftLimit, takeLimit, samplesOf, leftOver, takeOf, takeRules, Feeding, feeding, available, taken, fed}
 use Rattle.circuit.specs.Promises.{Feeds}
 use Rattle.circuit.specs.declared.Carried.{Carried}
 use Rattle.circuit.specs.declared.Feed.{Feed}
 use Rattle.circuit.specs.declared.Record.{Record}
 use Rattle.laws.proofs.Playing.{play-short}
 use Rattle.laws.proofs.Bytes.{samplesOf-append, length-leftOver, left-carried}
-use Rattle.laws.proofs.Taking.{rightRoom, played, fed-refused, fed-taken, taken-remembered}
+use Rattle.laws.proofs.Taking.{rightRoom, played, fed-refused, fed-taken}
 use Rattle.theorems.specs.Takes.{TakePiece, allBytes, allRoom, Outcome, lastCall, _ahead_, inCalls}
 use Rattle.theorems.proofs.Takes.{one-call}
 use Rattle.takes.specs.Own.{roomFor}
@@ -111,50 +110,21 @@ module _ (r : Record) {c : Carried} {s o : List ℕ} {at : ℕ} (h : Cuttable c 
       by zero z = rw (fed-taken whole z whole-room) (play-short r (c .state .waves) (samplesOf (available whole)))
       by (suc k) z = rw (fed-refused whole (omega arith)) (omega arith)
 
-  -- the rules of a take say of what the first carries on what it handed back
-  remembered : judge takeRules (takeOf r (fed front .carried)) ≡ fed front .handedBack
-  remembered = by (judge takeRules (takeOf r c) .number) refl
-    where
-      by : (n : ℕ) → judge takeRules (takeOf r c) .number ≡ n → judge takeRules (takeOf r (fed front .carried)) ≡ fed front .handedBack
-      by zero z =
-          let short = play-short r (c .state .waves) (samplesOf (available front)) in
-          rw (fed-taken front z front-room) (taken-remembered front z (omega (arith, short, back-many, many s, h .limit)))
-      by (suc k) z = rw (fed-refused front (omega arith)) refl
+  -- a refused first asks for nothing else: the second is refused too
+  module _ {p q : Feed} {after after₂ : List ℕ} (first : Feeds front p after) (second : Feeds (back (p .carried)) q after₂) where
+    both : lastCall r (fed whole) ≡ fed front ahead lastCall r (fed (back (p .carried)))
+    both = in-turn ∙ rw (first .carried) refl
 
-  module _ {p : Feed} {after : List ℕ} (first : Feeds front p after) where
-    -- the first is refused, and a second would be
-    module _ (n : handed (p .answer) .number ≡ 0 → ⊥) where
-      stopped : fed (back (fed front .carried)) ≡ nothingTaken (back (fed front .carried)) (fed front .handedBack)
-      stopped =
-          let above : 0 < fed front .handedBack .number = rw (← first .number) (pos-of-ne-zero n) in
-          fed-refused (back (fed front .carried)) (rw remembered above) ∙ rw remembered refl
+    counted : fed whole .samples ≡ p .done + q .done
+    counted = ap (λ (x : Outcome). x .samples) both ∙ rw (first .samples, second .samples) refl
 
-      alone : lastCall r (fed whole) ≡ fed front ahead lastCall r (nothingTaken (back (fed front .carried)) (fed front .handedBack))
-      alone = in-turn ∙ ap (λ x. fed front ahead lastCall r x) stopped
+    pub done-inside : p .done + q .done ≤ takeLimit
+    done-inside = rw (← counted) (omega (arith, whole-short, many s, h .limit))
 
-      pub one-refused : Feeds whole p (after ++ drop cut o)
-      one-refused = record {
-        number = first .number ∙ sym (ap (λ (x : Outcome). x .handedBack) alone);
-        samples = first .samples ∙ sym (ap (λ (x : Outcome). x .samples) alone ∙ add-zero (fed front .samples));
-        carried = first .carried ∙ sym (ap (λ (x : Outcome). x .carried) alone);
-        room = ap (λ (l : List ℕ). l ++ drop cut o) (first .room) ∙ sym (ap (λ (x : Outcome). x .room) alone);
-      }
-
-    -- both are made; where the first is refused the second is too, so that this asks nothing of the first
-    module _ {q : Feed} {after₂ : List ℕ} (second : Feeds (back (p .carried)) q after₂) where
-      both : lastCall r (fed whole) ≡ fed front ahead lastCall r (fed (back (p .carried)))
-      both = in-turn ∙ rw (first .carried) refl
-
-      counted : fed whole .samples ≡ p .done + q .done
-      counted = ap (λ (x : Outcome). x .samples) both ∙ rw (first .samples, second .samples) refl
-
-      pub done-inside : p .done + q .done ≤ takeLimit
-      done-inside = rw (← counted) (omega (arith, whole-short, many s, h .limit))
-
-      pub both-done : Feeds whole (record { answer = q .answer; done = p .done + q .done; carried = q .carried }) (after ++ after₂)
-      both-done = record {
-        number = second .number ∙ sym (ap (λ (x : Outcome). x .handedBack) both);
-        samples = sym counted;
-        carried = second .carried ∙ sym (ap (λ (x : Outcome). x .carried) both);
-        room = ap₂ (λ (x y : List ℕ). x ++ y) (first .room) (second .room) ∙ sym (ap (λ (x : Outcome). x .room) both);
-      }
+    pub both-done : Feeds whole (record { answer = q .answer; done = p .done + q .done; carried = q .carried }) (after ++ after₂)
+    both-done = record {
+      number = second .number ∙ sym (ap (λ (x : Outcome). x .handedBack) both);
+      samples = sym counted;
+      carried = second .carried ∙ sym (ap (λ (x : Outcome). x .carried) both);
+      room = ap₂ (λ (x y : List ℕ). x ++ y) (first .room) (second .room) ∙ sym (ap (λ (x : Outcome). x .room) both);
+    }

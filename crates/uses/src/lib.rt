@@ -108,6 +108,7 @@ fn can_cut(carried: Carried, bytes: &[u8], room: usize, at: usize) -> bool
 }
 
 // Cutting a call of a take changes nothing: a call in two calls, cut at byte `at`, which may be inside a sample, promises what one call does.
+// Where the first call is refused, the second is refused alike.
 pub fn feed_in_two(r: Record, carried: Carried, bytes: &[u8], out: &mut [u8], at: usize) -> Feed
     ensures { λ f. ⌜ Feeds (feeding r carried (now (bytes .entry)) (now (out .entry))) f (now (out .exit)) ⌝ }
 {
@@ -117,10 +118,6 @@ pub fn feed_in_two(r: Record, carried: Carried, bytes: &[u8], out: &mut [u8], at
     let count = carried.count as usize;
     let cut = OUTPUT_LENGTH * ((count + at) / SAMPLE_LENGTH);
     let first = takes::feed(r, carried, &bytes[..at], &mut out[..cut]);
-    let answer = first.answer;
-    if answer::number(answer) != 0 {
-        return first;
-    }
     let between = first.carried;
     let second = takes::feed(r, between, &bytes[at..], &mut out[cut..]);
     let answer = second.answer;

@@ -11,7 +11,7 @@ use Rattle.circuit.specs.Promises.{Feeds}
 use Rattle.takes.specs.Own.{roomFor}
 use Rattle.takes.proofs.Bytes.{left-sized}
 use Rattle.uses.proofs.Cut.{rest, rest-after, put-after}
-use Rattle.uses.proofs.CutTake.{Cuttable, cuttable, one-refused, done-inside, both-done}
+use Rattle.uses.proofs.CutTake.{Cuttable, cuttable, done-inside, both-done}
 use Rattle.uses.proofs.feed_in_two.Statement.{statement}
 use Rattle.uses.proofs.feed_in_two.Tie as tie
 
@@ -46,70 +46,60 @@ cut c = c .before .before .before .before
 abbrev left : tie.After-feed2 → List ℕ
 left c = c .feed2 .last .1 .1 .1 .0
 
-returns-2 : tie.Need-returns-2
-returns-2 c =
-    let n = c .before in
-    let k = n .before .before .before in
-    one-refused _ (told (cut k)) (k .feed2 .ensures) (λ z. c .if2 .taken (n .number .ensures ∙ z))
-
--- ---- the second, where the first is done
-
-abbrev called : tie.Else2 → tie.After-feed2
-called c = c .before .before .before .before
+-- ---- the second
 
 -- where the room is cut, and what is after it
-abbrev at-room : tie.Else2 → ℕ
-at-room c = let a = start (cut (called c)) .args in roomFor (a .at) (a .carried)
+abbrev at-room : tie.After-feed2 → ℕ
+at-room c = let a = start (cut c) .args in roomFor (a .at) (a .carried)
 
-abbrev others : tie.Else2 → List ℕ
-others c = drop (at-room c) (start (cut (called c)) .args .out .now)
+abbrev others : tie.After-feed2 → List ℕ
+others c = drop (at-room c) (start (cut c) .args .out .now)
 
-filled : (c : tie.Else2) → length (left (called c)) ≡ at-room c
-filled c = called c .feed2 .kept .1 .1 .1 .0 ∙ sym (slice-aggregate-feed-2 (called c .before))
+filled : (c : tie.After-feed2) → length (left c) ≡ at-room c
+filled c = c .feed2 .kept .1 .1 .1 .0 ∙ sym (slice-aggregate-feed-2 (c .before))
 
 sub-feed : tie.Need-sub-feed
-sub-feed c = told (cut (called (c .before))) .inside
+sub-feed c = told (cut (c .before .before .before)) .inside
 
 part-feed-start : tie.Need-part-feed-start
 part-feed-start c = sub-feed c
 
 sub-feed-2 : tie.Need-sub-feed-2
-sub-feed-2 c = let e = c .before .before in omega (arith, filled e, length-append (left (called e)) (others e))
+sub-feed-2 c = let e = c .before .before .before .before in omega (arith, filled e, length-append (left e) (others e))
 
 part-feed-start-2 : tie.Need-part-feed-start-2
 part-feed-start-2 c = sub-feed-2 c
 
-abbrev done : tie.After-feed3 → tie.Else2
-done c = c .before .before .before .before
+-- the first call, from after the second
+abbrev once : tie.After-feed3 → tie.After-feed2
+once c = c .before .before .before .before .before .before
 
 abbrev left-after : tie.After-feed3 → List ℕ
 left-after c = c .feed3 .last .1 .1 .1 .0
 
 second : (c : tie.After-feed3)
-    → let k = called (done c) in
+    → let k = once c in
     let a = start (cut k) .args in
-    Feeds (feeding (a .r) (k .feed2 .result .carried) (drop (a .at) (a .bytes .now)) (others (done c))) (c .feed3 .result) (left-after c)
+    Feeds (feeding (a .r) (k .feed2 .result .carried) (drop (a .at) (a .bytes .now)) (others k)) (c .feed3 .result) (left-after c)
 second c =
-    let e = done c in
-    let k = called e in
+    let k = once c in
     let a = start (cut k) .args in
     subst (λ f. Feeds f (c .feed3 .result) (left-after c))
-    (ap₂ (feeding (a .r) (k .feed2 .result .carried)) (rest (a .at) (a .bytes .now)) (rest-after (at-room e) (left k) (others e) (filled e)))
+    (ap₂ (feeding (a .r) (k .feed2 .result .carried)) (rest (a .at) (a .bytes .now)) (rest-after (at-room k) (left k) (others k) (filled k)))
     (c .feed3 .ensures)
 
 abbrev both : tie.After-struct-known3 → tie.After-feed3
 both c = c .before .before .before .before .before
 
 add-done : tie.Need-add-done
-add-done c = let k = called (done (both c)) in omega (arith, done-inside _ (told (cut k)) (k .feed2 .ensures) (second (both c)))
+add-done c = let k = once (both c) in omega (arith, done-inside _ (told (cut k)) (k .feed2 .ensures) (second (both c)))
 
-returns-3 : tie.Need-returns-3
-returns-3 c =
-    let e = done (both c) in
-    let k = called e in
+returns-2 : tie.Need-returns-2
+returns-2 c =
+    let k = once (both c) in
     let a = start (cut k) .args in
     subst (Feeds (feeding (a .r) (a .carried) (a .bytes .now) (a .out .now)) _)
-    (sym (put-after (at-room e) (left k) (others e) (filled e) (left-after (both c))))
+    (sym (put-after (at-room k) (left k) (others k) (filled k) (left-after (both c))))
     (both-done _ (told (cut k)) (k .feed2 .ensures) (second (both c)))
 
 pub feed-in-two-spec : {M : Type 1} → statement M
@@ -127,9 +117,6 @@ feed-in-two-spec =
     slice-relend-prefix-feed
     slice-aggregate-feed-2
     (λ c κs. search needs)
-    (λ c κs. search needs)
-    (λ c. search needs)
-    returns-2
     sub-feed
     part-feed-start
     (λ c. search needs)
@@ -139,4 +126,4 @@ feed-in-two-spec =
     (λ c κs. search needs)
     add-done
     (λ c. search needs)
-    returns-3)
+    returns-2)
