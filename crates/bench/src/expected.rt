@@ -21,7 +21,7 @@ pub fn refused(number: u64, place: u64) -> Expected {
 }
 
 pub fn agrees(a: Answer, e: Expected) -> bool {
-    (answer::number(a) == e.number) & (answer::place(a) == e.place)
+    (a.number() == e.number) & (a.place() == e.place)
 }
 
 // A case that hands back an answer and nothing else.

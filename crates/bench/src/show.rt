@@ -50,13 +50,13 @@ pub fn ohms(x: f64) {
 }
 
 pub fn answer(a: Answer) {
-    let n = answer::number(a);
+    let n = a.number();
     if n == 0 {
         text(b"done");
     } else {
         text(b"refused ");
         number(n);
         text(b" at ");
-        number(answer::place(a));
+        number(a.place());
     }
 }

@@ -12,7 +12,7 @@ ghost use mathlib.Core.Path.{_≡_};
 ghost use Rattle.circuit.specs.Numbers.{handed};
 ghost use Rattle.circuit.specs.Promises.{Charges};
 ghost use Rattle.circuit.specs.Run.{soundWave, storedWavesRule};
-ghost use Rattle.setup.specs.Answers.{numbered};
+ghost use Rattle.laws.specs.Numbered.{numbered};
 
 // A reactive row's wave is in its limit, and any other row's is 0.
 fn sound_wave(p: Part, w: i32) -> bool
@@ -49,7 +49,7 @@ pub fn check(r: Record, state: State) -> SetUp
 {
     let set = setup::set_up(r);
     let answer = set.answer;
-    if answer::number(answer) != 0 {
+    if answer.number() != 0 {
         return set;
     }
     let rows = set.rows;

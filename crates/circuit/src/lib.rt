@@ -1,13 +1,19 @@
 // The words of a circuit: the record that describes one, what set-up makes of it, the waves that a run carries, and the answers
 // that the unit hands back. What they mean is in specs/, a file to a heading of the paper.
 
+ghost use Prim.Native.Nat.{_%_, _^_};
 ghost use mathlib.Core.Path.{_≡_};
+ghost use mathlib.Core.Bool.{cond};
+ghost use mathlib.Core.List.{[], _∷_};
 ghost use lib.Dec.{eqb};
 ghost use lib.IntN.{natAbs};
 ghost use Rattle.circuit.specs.Counting.{within};
-ghost use Rattle.circuit.specs.Record.{isLeaf, isInput};
+ghost use Rattle.circuit.specs.Numbers.{handed};
+ghost use Rattle.circuit.specs.Record.{sourceLimit, isLeaf, isInput};
 ghost use Rattle.circuit.specs.Curve.{waveLimit};
 ghost use Rattle.circuit.specs.Run.{isReactive};
+ghost use Rattle.circuit.specs.File.{numberOf};
+ghost use Rattle.circuit.specs.Take.{signed};
 
 // Room for this many rows and columns.
 pub const ROWS: usize = 31;
@@ -175,6 +181,16 @@ pub struct State {
 // A wave, in whole microvolts.
 pub struct Wave(pub i64);
 
+impl Wave {
+    // Rule 15, of one wave.
+    pub fn in_limit(self) -> bool
+        ensures { λ b. ⌜ b ≡ within waveLimit (self .0) ⌝ }
+    {
+        let limit = WAVE_LIMIT as i64;
+        (-limit <= self.0) & (self.0 <= limit)
+    }
+}
+
 // A port voltage, in whole half microvolts: twice the voltage is the sum of the two waves.
 pub struct Doubled(pub i32);
 
@@ -199,6 +215,67 @@ pub enum Answer {
     Overload(usize),
     Room,
     LeftOver(usize),
+}
+
+impl Answer {
+    // From 0, done, to 17.
+    pub fn number(self) -> u64
+        ensures { λ n. ⌜ n ≡ handed self .number ⌝ }
+    {
+        match self {
+            Answer::Done => 0,
+            Answer::Length => 1,
+            Answer::Check(_) => 2,
+            Answer::Version => 3,
+            Answer::Form => 4,
+            Answer::Rate => 5,
+            Answer::Tree(_) => 6,
+            Answer::Value(_) => 7,
+            Answer::Resistance(_) => 8,
+            Answer::Ratio(_) => 9,
+            Answer::Curve(_) => 10,
+            Answer::Fit => 11,
+            Answer::Waves(_) => 12,
+            Answer::Lengths => 13,
+            Answer::Sample(_) => 14,
+            Answer::Overload(_) => 15,
+            Answer::Room => 16,
+            Answer::LeftOver(_) => 17,
+        }
+    }
+
+    // 0 where a number has no place.
+    pub fn place(self) -> u64
+        ensures { λ p. ⌜ p ≡ handed self .place ⌝ }
+    {
+        match self {
+            Answer::Done => 0,
+            Answer::Length => 0,
+            Answer::Check(block) => block as u64,
+            Answer::Version => 0,
+            Answer::Form => 0,
+            Answer::Rate => 0,
+            Answer::Tree(row) => row as u64,
+            Answer::Value(row) => row as u64,
+            Answer::Resistance(row) => row as u64,
+            Answer::Ratio(row) => row as u64,
+            Answer::Curve(column) => column as u64,
+            Answer::Fit => 0,
+            Answer::Waves(row) => row as u64,
+            Answer::Lengths => 0,
+            Answer::Sample(index) => index as u64,
+            Answer::Overload(index) => index as u64,
+            Answer::Room => 0,
+            Answer::LeftOver(samples) => samples as u64,
+        }
+    }
+
+    // This answer, and where it is done the next.
+    pub fn or(self, next: Answer) -> Answer
+        ensures { λ a. ⌜ a ≡ cond (eqb (handed self .number) 0) next self ⌝ }
+    {
+        if self.number() == 0 { next } else { self }
+    }
 }
 
 // What set-up hands back; on refusal the rows are zeros.
@@ -239,6 +316,13 @@ pub struct Feed {
     pub carried: Carried,
 }
 
+// Whether microvolts keep the limit of a steady source and of a sample.
+pub fn in_source_limit(microvolts: i32) -> bool
+    ensures { λ b. ⌜ b ≡ within sourceLimit microvolts ⌝ }
+{
+    (-SOURCE_LIMIT <= microvolts) & (microvolts <= SOURCE_LIMIT)
+}
+
 // Whether microvolts keep the limit of a wave.
 pub fn in_wave_limit(microvolts: i32) -> bool
     ensures { λ b. ⌜ b ≡ within waveLimit microvolts ⌝ }
@@ -250,4 +334,12 @@ pub fn is_zero(microvolts: i32) -> bool
     ensures { λ b. ⌜ b ≡ eqb (natAbs microvolts) 0 ⌝ }
 {
     microvolts == 0
+}
+
+// The sample in three bytes, the lowest first. From 2^23 on the number stands for one below zero: moved up by 2^23, it wraps at 2^24.
+pub fn sample_of(a: u8, b: u8, c: u8) -> i32
+    ensures { λ x. ⌜ x ≡ signed (numberOf (a ∷ b ∷ c ∷ []) % 2 ^ 24) ⌝ }
+{
+    let n = a as u32 + 256 * (b as u32) + 65536 * (c as u32);
+    ((n + 8388608) % 16777216) as i32 - 8388608
 }

@@ -2,18 +2,15 @@
 use Prim.Native.Nat.{ℕ, zero, suc, _+_, _-_, _*_, _/_, _%_, _^_, _<_, _≤_, min}
 use native.Mathlib.Nat.{pow-suc}
 use native.Mathlib.Omega.{arith}
-use borrow.Author.Tests.{lt-ltb, le-ltb}
 use mathlib.Core.Path.{_≡_, refl, sym, ap, _∙_, subst}
 use mathlib.Core.List.{List, [], _∷_, _++_}
 use lib.ListN.{length, getD, take, drop, set, length-append, length-take}
 use lib.Seq.{getD-append-add, getD-take, drop-cons, sets}
-use lib.IntN.{ℤ, pos, negsuc, _+ℤ_, _-ℤ_}
+use lib.IntN.{ℤ, pos, negsuc, _+ℤ_}
 use mir.Syntax.{w32}
-use mir.Val.{toZ, ofZ, SFits}
-use mir.Facts.{toZ-pos, toZ-ofZ}
-use Rattle.whole.specs.Integers.{at, _⊞_, _⊟_}
+use mir.Val.{ofZ, SFits}
+use Rattle.whole.specs.Integers.{at, _⊞_}
 use Rattle.whole.specs.Order.{zarith}
-use Rattle.whole.specs.Signed.{zfits}
 use Rattle.circuit.specs.File.{bytes, numberOf, signedBytes}
 use Rattle.circuit.specs.Take.{sampleLength, outputLength, signed, sampleAt, samplesOf, outputBytes}
 use Rattle.laws.proofs.Counting.{getD-table}
@@ -24,30 +21,8 @@ use Rattle.engine.proofs.Looping.{written-more}
 
 -- ---- a sample
 
--- three bytes as one number
-abbrev pub three : ℕ → ℕ → ℕ → ℕ
-three a b c = a + 256 * b + 65536 * c
-
 abbrev pub sampleIn : ℕ → ℕ → ℕ → ℤ
 sampleIn a b c = signed (numberOf (a ∷ b ∷ c ∷ []) % 2 ^ 24)
-
-module _ (a b c : ℕ) (x : a < 256) (y : b < 256) (z : c < 256) where
-  same-number : numberOf (a ∷ b ∷ c ∷ []) % 2 ^ 24 ≡ three a b c
-  unfolding numberOf
-  same-number = omega arith
-
-  plain : toZ w32 (three a b c) ≡ pos (three a b c)
-  plain = toZ-pos w32 (omega arith)
-
-  pub sample-low : three a b c < 2 ^ 23 → toZ w32 (three a b c) ≡ sampleIn a b c
-  sample-low l = plain ∙ rw (same-number, lt-ltb (three a b c) (2 ^ 23) l) refl
-
-  module _ (l : 2 ^ 23 ≤ three a b c) where
-    pub high-fits : SFits w32 (toZ w32 (three a b c) -ℤ pos (2 ^ 24))
-    high-fits = rw plain (omega (zfits, at (pos (three a b c)) ⊟ at (pos (2 ^ 24))))
-
-    pub sample-high : toZ w32 (ofZ w32 (toZ w32 (three a b c) -ℤ pos (2 ^ 24))) ≡ sampleIn a b c
-    sample-high = toZ-ofZ high-fits ∙ rw (plain, same-number, le-ltb (three a b c) (2 ^ 23) l) refl
 
 three-from : (s : List ℕ) (at : ℕ) → at + 3 ≤ length s → take 3 (drop at s) ≡ getD s at 0 ∷ getD s (at + 1) 0 ∷ getD s (at + 2) 0 ∷ []
 three-from s at l =

@@ -1,25 +1,14 @@
 // Raw bytes: a sample in three, an output in four, each signed and with its lowest byte first.
 use circuit::Doubled;
 use circuit::SAMPLE_LENGTH;
+use circuit::sample_of;
 ghost use mathlib.Core.Path.{_≡_};
-ghost use Prim.Native.Nat.{_+_, _*_, _%_, _^_, _<_, _≤_};
-ghost use mathlib.Core.List.{[], _∷_, _++_};
+ghost use Prim.Native.Nat.{_+_, _*_, _<_, _≤_};
+ghost use mathlib.Core.List.{_++_};
 ghost use lib.ListN.{length, getD};
 ghost use lib.Seq.{sets};
-ghost use Rattle.circuit.specs.File.{bytes, numberOf, signedBytes};
-ghost use Rattle.circuit.specs.Take.{sampleLength, outputLength, signed, sampleAt};
-
-// The sample in three bytes.
-fn sample_of(a: u8, b: u8, c: u8) -> i32
-    ensures { λ x. ⌜ x ≡ signed (numberOf (a ∷ b ∷ c ∷ []) % 2 ^ 24) ⌝ }
-{
-    let n = a as u32 + 256 * (b as u32) + 65536 * (c as u32);
-    if n < 8388608 {
-        n as i32
-    } else {
-        n as i32 - 16777216
-    }
-}
+ghost use Rattle.circuit.specs.File.{bytes, signedBytes};
+ghost use Rattle.circuit.specs.Take.{sampleLength, outputLength, sampleAt};
 
 // Byte `at` of `left` and after it `more`.
 fn byte_at(left: &[u8], more: &[u8], at: usize) -> u8

@@ -6,35 +6,17 @@ use crate::sweep::sweep_down;
 use crate::sweep::sweep_up;
 use circuit::Doubled;
 use circuit::ROWS;
-use circuit::SOURCE_LIMIT;
-use circuit::WAVE_LIMIT;
 use circuit::Wave;
+use circuit::in_source_limit;
 ghost use mathlib.Core.Path.{_≡_};
-ghost use mathlib.Core.Bool.{not};
 ghost use Prim.Native.Nat.{ℕ, _<_, _≤_};
 ghost use lib.IntN.{_+ℤ_};
 ghost use lib.ListN.{getD, set};
 ghost use Rattle.whole.specs.Order.{Abs};
-ghost use Rattle.circuit.specs.Counting.{within};
-ghost use Rattle.circuit.specs.Record.{rowLimit, sourceLimit};
+ghost use Rattle.circuit.specs.Record.{rowLimit};
 ghost use Rattle.circuit.specs.Curve.{waveLimit};
 ghost use Rattle.circuit.specs.Sample.{storedAt};
 ghost use Rattle.engine.specs.Sample.{someOver, turnedBy, restored, Restores, lifted, Lifts, landed, Lands, Settles, Settled, LaidOut, Samples};
-
-// Rule 14.
-fn loud(x: i32) -> bool
-    ensures { λ r. ⌜ r ≡ not (within sourceLimit x) ⌝ }
-{
-    !((-SOURCE_LIMIT <= x) & (x <= SOURCE_LIMIT))
-}
-
-// Rule 15, of one wave.
-fn over(a: Wave) -> bool
-    ensures { λ r. ⌜ r ≡ not (within waveLimit (a .0)) ⌝ }
-{
-    let limit = WAVE_LIMIT as i64;
-    !((-limit <= a.0) & (a.0 <= limit))
-}
 
 // Rule 15, of the waves that arrive at the first `m` of the leaves.
 fn any_over(leaves: &[u8; ROWS], m: usize, down: &[i64; ROWS]) -> bool
@@ -43,7 +25,7 @@ fn any_over(leaves: &[u8; ROWS], m: usize, down: &[i64; ROWS]) -> bool
 {
     for k in 0..m {
         let row = wide(leaves[k]);
-        if over(Wave(down[row])) {
+        if !Wave(down[row]).in_limit() {
             return true;
         }
     }
@@ -175,11 +157,11 @@ pub(crate) fn sample(
     requires { ⌜ LaidOut shape (now words) (now adaptors) (now leaves) (now reactive) (now xs) (now ys) (now up) (now down) ⌝ }
     ensures { λ o. ⌜ Samples shape (now (words .entry)) (now (adaptors .entry)) (now (leaves .entry)) (now (reactive .entry)) (now (xs .entry)) (now (ys .entry)) (now (up .entry)) x o (now (up .exit)) (now (down .exit)) ⌝ }
 {
-    if loud(x) {
+    if !in_source_limit(x) {
         return Outcome::Loud;
     }
     let risen = rise(shape, words, adaptors, up, x);
-    if over(risen) {
+    if !risen.in_limit() {
         return Outcome::Over;
     }
     let kind = shape.kind;

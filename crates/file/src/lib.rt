@@ -21,13 +21,13 @@ pub fn read(s: &[u8]) -> Reading
     ensures { λ r. ⌜ Reads (now (s .entry)) r ⌝ }
 {
     let judged = rules::judged(s);
-    if answer::number(judged) != 0 {
+    if judged.number() != 0 {
         return refused(judged);
     }
     let record = heading::record_of(s);
     let set_up = setup::set_up(record);
     let answer = set_up.answer;
-    if answer::number(answer) != 0 {
+    if answer.number() != 0 {
         return refused(answer);
     }
     Reading { answer, record }
@@ -49,7 +49,7 @@ pub fn write(r: Record, out: &mut [u8]) -> Answer
     }
     let set_up = setup::set_up(r);
     let answer = set_up.answer;
-    if answer::number(answer) == 0 {
+    if answer.number() == 0 {
         write_blocks(r, out);
     }
     answer

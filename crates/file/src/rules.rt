@@ -95,7 +95,7 @@ pub(crate) fn judged(s: &[u8]) -> Answer
         return Answer::Length;
     }
     let wrong = wrong_check(s);
-    if answer::number(wrong) != 0 {
+    if wrong.number() != 0 {
         return wrong;
     }
     if bytes::number(s, 0, 2) != heading::VERSION {

@@ -11,7 +11,7 @@ fn say(words: &[u8]) {
 }
 
 fn say_refusal(a: Answer) {
-    if answer::number(a) != 0 {
+    if a.number() != 0 {
         say(b"list: ");
         let mut words = [0u8; ROOM];
         let length = listing::explain(a, &mut words);

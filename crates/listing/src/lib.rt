@@ -38,9 +38,9 @@ pub fn list(s: &[u8], out: &mut Page) -> usize
 {
     let reading = file::read(s);
     let answer = reading.answer;
-    let number = answer::number(answer);
+    let number = answer.number();
     if number != 0 {
-        let place = answer::place(answer);
+        let place = answer.place();
         return put_numbers(out, b"refused ", number, b" at ", place);
     }
     let record = reading.record;

@@ -44,7 +44,7 @@ fn put_line(out: &mut [u8], lines: &[u8], k: u64) -> usize
 pub fn explain(a: Answer, out: &mut Page) -> usize
     ensures { λ n. ⌜ Explains a (now (out .entry)) n (now (out .exit)) ⌝ }
 {
-    let number = answer::number(a);
+    let number = a.number();
     put_line(
         out,
         b"done\n\

@@ -11,8 +11,7 @@ ghost use Rattle.circuit.specs.Numbers.{handed, unless};
 ghost use Rattle.circuit.specs.Record.{columnAt, columnLimit, atOrigin};
 ghost use Rattle.circuit.specs.Curve.{beside, starts, soundColumn, passesOrigin, columnRule};
 ghost use Rattle.laws.proofs.Formed.{Formed};
-ghost use Rattle.setup.specs.Answers.{numbered};
-use crate::first;
+ghost use Rattle.laws.specs.Numbered.{numbered};
 use crate::search::Fault;
 use crate::search::lowest_fault;
 use circuit::Answer;
@@ -116,5 +115,5 @@ pub(crate) fn column_rule(r: Record) -> Answer
     requires { ⌜ Formed r ⌝ }
     ensures { λ a. ⌜ handed a ≡ numbered 10 (columnRule r) ⌝ }
 {
-    first(lowest_fault(Fault::Column, r), origin_rule(r))
+    lowest_fault(Fault::Column, r).or(origin_rule(r))
 }

@@ -6,7 +6,7 @@ ghost use lib.Dec.{leb, ltb};
 ghost use Rattle.circuit.specs.Counting.{every};
 ghost use Rattle.circuit.specs.Numbers.{handed};
 ghost use Rattle.circuit.specs.Record.{rowLimit, columnLimit, isBlank, isSet, atOrigin, partAt, columnAt, formRule, rateRule};
-ghost use Rattle.setup.specs.Answers.{numbered};
+ghost use Rattle.laws.specs.Numbered.{numbered};
 use crate::columns::at_origin;
 use circuit::Answer;
 use circuit::COLUMNS;

@@ -8,7 +8,7 @@ ghost use Rattle.circuit.specs.SetUp.{nothing, portRules};
 ghost use Rattle.circuit.specs.Run.{freshWaves};
 ghost use Rattle.circuit.specs.Promises.{SetsUp};
 ghost use Rattle.laws.proofs.Formed.{Formed};
-ghost use Rattle.setup.specs.Answers.{firstOf, treeRules};
+ghost use Rattle.setup.specs.Answers.{treeRules};
 ghost use Rattle.setup.specs.Rows.{Filled};
 
 mod columns;
@@ -28,13 +28,6 @@ use port::PortFault;
 use search::Fault;
 use search::lowest_fault;
 
-// One answer, and where it is done another.
-pub fn first(a: Answer, b: Answer) -> Answer
-    ensures { λ r. ⌜ r ≡ firstOf a b ⌝ }
-{
-    if answer::number(a) == 0 { b } else { a }
-}
-
 // 5 to 7.
 fn tree_answer(r: Record) -> Answer
     requires { ⌜ Formed r ⌝ }
@@ -45,7 +38,7 @@ fn tree_answer(r: Record) -> Answer
     let once = lowest_fault(Fault::Uses, r);
     let tapped = tree::input_and_tap(r);
     let valued = lowest_fault(Fault::Value, r);
-    first(rate, first(lower, first(once, first(tapped, valued))))
+    rate.or(lower.or(once.or(tapped.or(valued))))
 }
 
 // 8 to 11.
@@ -57,7 +50,7 @@ fn port_answer(r: Record, rows: [Prepared; ROWS]) -> Answer
     let rated = port::lowest_port(PortFault::Ratio, r, rows);
     let drawn = columns::column_rule(r);
     let fitted = port::curve_resistance(r, rows);
-    first(ranged, first(rated, first(drawn, fitted)))
+    ranged.or(rated.or(drawn.or(fitted)))
 }
 
 fn refused(a: Answer) -> SetUp
@@ -73,16 +66,16 @@ pub fn set_up(r: Record) -> SetUp
     ensures { λ s. ⌜ SetsUp r s ⌝ }
 {
     let form = form::form(r);
-    if answer::number(form) != 0 {
+    if form.number() != 0 {
         return refused(form);
     }
     let tree = tree_answer(r);
-    if answer::number(tree) != 0 {
+    if tree.number() != 0 {
         return refused(tree);
     }
     let rows = port::prepared_rows(r);
     let port = port_answer(r, rows);
-    if answer::number(port) != 0 {
+    if port.number() != 0 {
         return refused(port);
     }
     SetUp { answer: port, rows }

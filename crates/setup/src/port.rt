@@ -6,7 +6,7 @@ ghost use Rattle.circuit.specs.Numbers.{handed, report};
 ghost use Rattle.circuit.specs.Record.{rowLimit, partAt};
 ghost use Rattle.circuit.specs.SetUp.{nothing, inRange, leafResistance, joinedResistance, quotient, parts, scaledDown, ratioFault, fits, curveResistanceRule};
 ghost use Rattle.laws.specs.Accepted.{Lower};
-ghost use Rattle.setup.specs.Answers.{numbered};
+ghost use Rattle.laws.specs.Numbered.{numbered};
 ghost use Rattle.setup.specs.Ratio.{proper};
 ghost use Rattle.setup.specs.Faults.{faultOf, portNumber, portRule};
 ghost use Rattle.setup.specs.Rows.{joinedRow, preparedFrom, properRows, Filled};

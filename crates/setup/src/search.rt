@@ -4,7 +4,7 @@ ghost use mathlib.Core.Path.{_≡_};
 ghost use Prim.Native.Nat.{_<_};
 ghost use Rattle.circuit.specs.Numbers.{handed, lowest, report};
 ghost use Rattle.laws.proofs.Formed.{Formed};
-ghost use Rattle.setup.specs.Answers.{numbered};
+ghost use Rattle.laws.specs.Numbered.{numbered};
 ghost use Rattle.setup.specs.Faults.{faultNumber, placesOf, faultAt};
 use crate::columns;
 use crate::tree;

@@ -6,7 +6,7 @@ ghost use Prim.Native.Nat.{_≤_};
 ghost use Rattle.circuit.specs.Counting.{one};
 ghost use Rattle.circuit.specs.Numbers.{handed};
 ghost use Rattle.circuit.specs.Record.{rowLimit, partAt, notLower, names as namesOf, uses as usesOf, inputs as inputsOf, inputAndTapRule};
-ghost use Rattle.setup.specs.Answers.{numbered};
+ghost use Rattle.laws.specs.Numbered.{numbered};
 use circuit::Answer;
 use circuit::NO_ROW;
 use circuit::Part;

@@ -28,12 +28,12 @@ fn say(words: &[u8]) {
 }
 
 fn say_refusal(a: Answer) {
-    let number = answer::number(a);
+    let number = a.number();
     if number != 0 {
         say(b"take: refused ");
         io::print_decimal(STDERR_FILENO, number);
         say(b" at ");
-        io::print_decimal(STDERR_FILENO, answer::place(a));
+        io::print_decimal(STDERR_FILENO, a.place());
         say(b": ");
         let mut words = [0u8; ROOM];
         let length = listing::explain(a, &mut words);
@@ -81,7 +81,7 @@ fn work(r: Record, carried: Carried, bytes: &[u8], out: &mut [u8]) -> Worked
     Worked {
         carried: after,
         written,
-        more: answer::number(answer) == 0,
+        more: answer.number() == 0,
     }
 }
 
@@ -124,7 +124,7 @@ fn work_take(r: Record) -> Answer {
 fn run(s: &[u8]) -> Answer {
     let reading = file::read(s);
     let answer = reading.answer;
-    if answer::number(answer) != 0 {
+    if answer.number() != 0 {
         return answer;
     }
     let record = reading.record;

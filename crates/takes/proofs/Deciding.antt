@@ -14,25 +14,18 @@ use Rattle.circuit.specs.Take.{sampleLength, outputLength, leftLimit, takeLimit
 use Rattle.circuit.specs.declared.Answer.{Answer}
 use Rattle.circuit.specs.declared.Carried.{Carried}
 use Rattle.circuit.specs.declared.Record.{Record}
+use Rattle.laws.specs.Numbered.{numbered}
+use Rattle.laws.proofs.Chain.{first, first-handed}
 use Rattle.laws.proofs.Counting.{unless-passes}
 use Rattle.laws.proofs.Judging.{judge-of, zero-pass, _orElse_, else-next, else-zero, else-assoc, else-same}
 use Rattle.laws.proofs.Bytes.{length-samplesOf}
 use Rattle.laws.proofs.Taking.{take-judged, carriedRules, carried-judged, ended-judged, rightRoom, feed-judged}
-use Rattle.setup.specs.Answers.{numbered, firstOf}
 use Rattle.takes.specs.Own.{ownRules, roomFor, Ready}
 use Rattle.takes.proofs.Bytes.{both-length}
 
 -- ---- one report, and where it is done the next
 
-first-handed : (a b : Answer) → handed (firstOf a b) ≡ handed a orElse handed b
-unfolding firstOf
-first-handed a b = by (eqb (handed a .number) 0)
-  where
-    by : (t : Bool) → handed (cond t b a) ≡ cond t (handed b) (handed a)
-    by true = refl
-    by false = refl
-
-pub first-zero : (x a b : Answer) → x ≡ firstOf a b → handed x .number ≡ 0 → (handed a .number ≡ 0) × (handed b .number ≡ 0)
+pub first-zero : (x a b : Answer) → x ≡ first a b → handed x .number ≡ 0 → (handed a .number ≡ 0) × (handed b .number ≡ 0)
 first-zero x a b e z = else-zero (handed a) (handed b) (rw (e, first-handed) at z)
 
 -- one rule, which is a test
@@ -47,11 +40,11 @@ unfolding ownRules of
 take-own t = take-judged t ∙ ap (λ n. judge chargedRules (stored t) orElse n) (judge-of (λ (u : UnderWay). u .carried) ownRules t)
 
 -- x is the first of a and y, and y the first of b and d
-module _ (t : UnderWay) (a b d x y : Answer) (p : x ≡ firstOf a y) (q : y ≡ firstOf b d)
+module _ (t : UnderWay) (a b d x y : Answer) (p : x ≡ first a y) (q : y ≡ first b d)
     (e : handed a ≡ judge chargedRules (stored t)) (f : handed b ≡ judge ownRules (t .carried)) where
   in-order : handed x ≡ judge takeRules t orElse handed d
   in-order =
-      rw (p, q, first-handed a (firstOf b d), first-handed b d, e, f, take-own)
+      rw (p, q, first-handed a (first b d), first-handed b d, e, f, take-own)
       (sym (else-assoc (judge chargedRules (stored t)) (judge ownRules (t .carried)) (handed d)))
 
   pub end-decided : handed d ≡ numbered 17 (endRule (t .carried)) → handed x ≡ ended t
@@ -71,7 +64,7 @@ zero-test : (n : ℕ) (t : Bool) (p : ℕ) → numbered (suc n) (unless t p) .nu
 zero-test n true p z = refl
 zero-test n false p z = absurd (omega arith)
 
-pub zero-ready : (n m : ℕ) (c : Carried) (b d y : Answer) → y ≡ firstOf b d → handed b ≡ judge ownRules c → handed d ≡ numbered 16 (unless (eqb m (roomFor n c)) 0)
+pub zero-ready : (n m : ℕ) (c : Carried) (b d y : Answer) → y ≡ first b d → handed b ≡ judge ownRules c → handed d ≡ numbered 16 (unless (eqb m (roomFor n c)) 0)
     → handed y .number ≡ 0 → Ready n m c
 zero-ready n m c b d y q f g z =
     let none = first-zero y b d q z in
@@ -96,7 +89,7 @@ module _ (r : Record) (c : Carried) (s o : List ℕ) (sized : length (c .left) �
   pub whole-samples : c .count ≤ leftLimit → length (samplesOf (available call)) ≡ (c .count + length s) / sampleLength
   whole-samples l = length-samplesOf (available call) ∙ ap (λ n. n / sampleLength) (both-length (c .left) s (c .count) (omega arith))
 
-  pub feed-decided : (a b d x y : Answer) → x ≡ firstOf a y → y ≡ firstOf b d → handed a ≡ judge chargedRules (stored (underWay call)) → handed b ≡ judge ownRules c
+  pub feed-decided : (a b d x y : Answer) → x ≡ first a y → y ≡ first b d → handed a ≡ judge chargedRules (stored (underWay call)) → handed b ≡ judge ownRules c
       → handed d ≡ numbered 16 (unless (eqb (length o) (roomFor (length s) c)) 0) → handed x ≡ judge feedRules call
   feed-decided a b d x y p q e f g =
       in-order (underWay call) a b d x y p q e f

@@ -17,7 +17,6 @@ use left::left_after;
 use rules::end_rule;
 use rules::own_rules;
 use rules::room_rule;
-use setup::first;
 
 // What the first call of a take is given.
 pub fn start() -> Carried
@@ -56,7 +55,7 @@ fn work(r: Record, carried: Carried, bytes: &[u8], out: &mut [u8]) -> Feed
     let answer = progress.answer;
     let after = progress.state;
     let done = carried.done + progress.done as u64;
-    let number = answer::number(answer);
+    let number = answer.number();
     if number == 0 {
         let rest = left_after(true, left, count, bytes);
         let kept = rest.bytes;
@@ -96,13 +95,13 @@ pub fn feed(r: Record, carried: Carried, bytes: &[u8], out: &mut [u8]) -> Feed
 {
     let own = own_rules(carried);
     let room = room_rule(carried, bytes, out.len());
-    let refusal = first(own, room);
+    let refusal = own.or(room);
     // The circuit is set up once: here, or for the run.
-    if answer::number(refusal) != 0 {
+    if refusal.number() != 0 {
         let state = carried.state;
         let set = charge::check(r, state);
         let circuit = set.answer;
-        return turned_away(first(circuit, refusal), carried);
+        return turned_away(circuit.or(refusal), carried);
     }
     work(r, carried, bytes, out)
 }
@@ -116,5 +115,5 @@ pub fn finish(r: Record, carried: Carried) -> Answer
     let circuit = set.answer;
     let own = own_rules(carried);
     let end = end_rule(carried);
-    first(circuit, first(own, end))
+    circuit.or(own.or(end))
 }

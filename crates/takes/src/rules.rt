@@ -6,13 +6,12 @@ use circuit::NO_ROW;
 use circuit::OUTPUT_LENGTH;
 use circuit::SAMPLE_LENGTH;
 use circuit::TAKE_LIMIT;
-use setup::first;
 ghost use mathlib.Core.Path.{_≡_};
 ghost use lib.Dec.{eqb};
 ghost use lib.ListN.{length};
 ghost use Rattle.circuit.specs.Numbers.{handed, judge, unless};
 ghost use Rattle.circuit.specs.Take.{carriedRule, heldRule, endRule};
-ghost use Rattle.setup.specs.Answers.{numbered};
+ghost use Rattle.laws.specs.Numbered.{numbered};
 ghost use Rattle.takes.specs.Own.{ownRules, roomFor};
 
 fn carried_rule(c: Carried) -> Answer
@@ -41,7 +40,7 @@ fn held_rule(c: Carried) -> Answer
 pub(crate) fn own_rules(c: Carried) -> Answer
     ensures { λ a. ⌜ handed a ≡ judge ownRules c ⌝ }
 {
-    first(carried_rule(c), held_rule(c))
+    carried_rule(c).or(held_rule(c))
 }
 
 // A slice has fewer than 2^63 bytes, so that nothing wraps.

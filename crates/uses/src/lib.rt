@@ -30,7 +30,7 @@ pub fn rewrite(bytes: &[u8], out: &mut [u8]) -> Answer
 {
     let reading = file::read(bytes);
     let judged = reading.answer;
-    if answer::number(judged) != 0 {
+    if judged.number() != 0 {
         return judged;
     }
     let record = reading.record;
@@ -77,7 +77,7 @@ pub fn run_in_two(r: Record, state: State, input: &[i32], output: &mut [i32], at
     }
     let first = engine::run(r, state, &input[..at], &mut output[..at]);
     let answer = first.answer;
-    if answer::number(answer) != 0 {
+    if answer.number() != 0 {
         return first;
     }
     let between = first.state;

@@ -5,7 +5,7 @@ use borrow.Author.Needs.{needs}
 use Rattle.circuit.specs.Run.{storedWavesRule, Charged}
 use Rattle.laws.proofs.Judging.{else-next, else-first}
 use Rattle.laws.proofs.Charging.{charged-judged}
-use Rattle.setup.proofs.Chain.{last-judges}
+use Rattle.laws.proofs.Chain.{last-judges}
 use Rattle.charge.proofs.check.Statement.{statement}
 use Rattle.charge.proofs.check.Tie as tie
 

@@ -15,7 +15,7 @@ use Rattle.circuit.specs.Sample.{storedAt}
 use Rattle.circuit.specs.Run.{soundWave, storedWavesRule}
 use Rattle.circuit.specs.declared.Record.{Record}
 use Rattle.laws.proofs.Counting.{lowest-step}
-use Rattle.setup.proofs.Chain.{stops, goes-through}
+use Rattle.laws.proofs.Chain.{stops, goes-through}
 use Rattle.charge.proofs.stored_waves.Statement.{statement}
 use Rattle.charge.proofs.stored_waves.Tie as tie
 

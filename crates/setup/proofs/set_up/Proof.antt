@@ -10,7 +10,7 @@ use Rattle.laws.proofs.Judging.{Pass}
 use Rattle.laws.proofs.Formed.{Formed, formed, rows-blank, rows-lower}
 use Rattle.laws.proofs.Sizes.{sized}
 use Rattle.setup.specs.Answers.{formRules, treeRules}
-use Rattle.setup.proofs.Chain.{last-judges}
+use Rattle.laws.proofs.Chain.{last-judges}
 use Rattle.setup.proofs.Rows.{rows-proper}
 use Rattle.setup.proofs.Judged.{form-refuses, form-passes, tree-refuses, tree-passes, port-decides, port-passes, formed-passes, lower-passes, ratios-pass, refused-rows, accepted-rows}
 use Rattle.setup.proofs.set_up.Statement.{statement}

@@ -5,7 +5,7 @@ use borrow.Author.Needs.{needs}
 use Rattle.circuit.specs.Numbers.{handed, rule}
 use Rattle.circuit.specs.Record.{rateRule, childrenRule, usedOnceRule, inputAndTapRule, valueRule, recordRules}
 use Rattle.setup.specs.Answers.{treeRules}
-use Rattle.setup.proofs.Chain.{first-judges, last-judges}
+use Rattle.laws.proofs.Chain.{first-judges, last-judges}
 use Rattle.setup.proofs.tree_answer.Statement.{statement}
 use Rattle.setup.proofs.tree_answer.Tie as tie
 
@@ -22,10 +22,10 @@ returns c =
     let rated = lower .before in
     let r = rated .before .args .r in
     let at7 = last-judges 7 valueRule r _ (valued .lowest-fault3 .ensures) in
-    let tap = ap handed (last .first .ensures) ∙ first-judges 5 inputAndTapRule (rule 7 valueRule ∷ []) r _ _ (tapped .input-and-tap .ensures) at7 in
-    let uses = ap handed (second .first2 .ensures) ∙ first-judges 5 usedOnceRule (rule 6 inputAndTapRule ∷ rule 7 valueRule ∷ []) r _ _ (once .lowest-fault2 .ensures) tap in
-    let tree = ap handed (third .first3 .ensures) ∙ first-judges 5 childrenRule (rule 6 usedOnceRule ∷ rule 6 inputAndTapRule ∷ rule 7 valueRule ∷ []) r _ _ (lower .lowest-fault .ensures) uses in
-    ap handed (c .first4 .ensures) ∙ first-judges 4 rateRule (rule 6 childrenRule ∷ rule 6 usedOnceRule ∷ rule 6 inputAndTapRule ∷ rule 7 valueRule ∷ []) r _ _ (rated .rate .ensures) tree
+    let tap = ap handed (last .or .ensures) ∙ first-judges 5 inputAndTapRule (rule 7 valueRule ∷ []) r _ _ (tapped .input-and-tap .ensures) at7 in
+    let uses = ap handed (second .or2 .ensures) ∙ first-judges 5 usedOnceRule (rule 6 inputAndTapRule ∷ rule 7 valueRule ∷ []) r _ _ (once .lowest-fault2 .ensures) tap in
+    let tree = ap handed (third .or3 .ensures) ∙ first-judges 5 childrenRule (rule 6 usedOnceRule ∷ rule 6 inputAndTapRule ∷ rule 7 valueRule ∷ []) r _ _ (lower .lowest-fault .ensures) uses in
+    ap handed (c .or4 .ensures) ∙ first-judges 4 rateRule (rule 6 childrenRule ∷ rule 6 usedOnceRule ∷ rule 6 inputAndTapRule ∷ rule 7 valueRule ∷ []) r _ _ (rated .rate .ensures) tree
 
 pub tree-answer-spec : {M : Type 1} → statement M
 tree-answer-spec =

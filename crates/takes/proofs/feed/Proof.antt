@@ -9,10 +9,10 @@ use Rattle.takes.proofs.feed.Tie as tie
 
 -- ---- places of the walk: where the take's own rules have answered, and the start
 
-abbrev own : tie.After-first → tie.After-own-rules
+abbrev own : tie.After-or → tie.After-own-rules
 own c = c .before .before
 
-abbrev start : tie.After-first → tie.Start
+abbrev start : tie.After-or → tie.Start
 start c = own c .before .before .before
 
 returns : tie.Need-returns
@@ -23,15 +23,15 @@ returns c =
     let asked = then .before .before in
     let a = start asked .args in
     let told = feed-decided (a .r) (a .carried) (a .bytes .now) (a .out .now) (left-sized (a .carried) _ (start asked .good .1 .0)) _ _ _ _ _
-    (both .first2 .ensures) (asked .first .ensures) (check .check .ensures .number) (own asked .own-rules .ensures) (asked .before .room-rule .ensures) in
+    (both .or2 .ensures) (asked .or .ensures) (check .check .ensures .number) (own asked .own-rules .ensures) (asked .before .room-rule .ensures) in
     feeds-refused _ _ _ _ (c .turned-away .ensures)
-    (fed-kept _ _ told (λ z. then .if1 .taken (then .before .number .ensures ∙ first-zero _ _ _ (both .first2 .ensures) z .1)))
+    (fed-kept _ _ told (λ z. then .if1 .taken (then .before .number .ensures ∙ first-zero _ _ _ (both .or2 .ensures) z .1)))
 
 work-requires : tie.Need-work-requires
 work-requires c κs =
     let else = c .before in
     let asked = else .before .before in
-    zero-ready _ _ (start asked .args .carried) _ _ _ (asked .first .ensures) (own asked .own-rules .ensures) (asked .before .room-rule .ensures)
+    zero-ready _ _ (start asked .args .carried) _ _ _ (asked .or .ensures) (own asked .own-rules .ensures) (asked .before .room-rule .ensures)
     (sym (else .before .number .ensures) ∙ else .if1 .left)
 
 pub feed-spec : {M : Type 1} → statement M

@@ -44,18 +44,18 @@ module _ (c : tie.After-wide Inv-loop μ-loop) where
   inside = rw (c .wide .ensures) (start .pre .1 (turn .loop .k) still)
 
 -- what the test of a turn finds
-module _ (c : tie.After-over Inv-loop μ-loop) where
+module _ (c : tie.After-in-limit Inv-loop μ-loop) where
   abbrev here : tie.After-wide Inv-loop μ-loop
   here = c .before .before
 
   abbrev found : ℕ → Bool
   found = Over (start here .args .leaves .now) (start here .args .down .now)
 
-  tested : c .over .result ≡ found (turn here .loop .k)
+  tested : not (c .in-limit .result) ≡ found (turn here .loop .k)
   tested =
       let down = start here .args .down .now in
-      let fits : SFits w64 (storedAt down (here .wide .result)) = record { sfits = c .before .t14 .given } in
-      c .over .ensures ∙ ap (λ z. not (within waveLimit z)) (toZ-ofZ fits ∙ ap (storedAt down) (here .wide .ensures))
+      let fits : SFits w64 (storedAt down (here .wide .result)) = record { sfits = c .before .t13 .given } in
+      ap not (c .in-limit .ensures ∙ ap (within waveLimit) (toZ-ofZ fits ∙ ap (storedAt down) (here .wide .ensures)))
 
 returns : tie.Need-returns Inv-loop μ-loop
 returns c =

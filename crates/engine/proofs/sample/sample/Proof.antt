@@ -25,8 +25,8 @@ use Rattle.engine.proofs.sample.sample.Statement.{statement}
 use Rattle.engine.proofs.sample.sample.Tie as tie
 
 -- the test of the sample's bits, read back
-quiet : {b : Bool} {x : ℤ} → SFits w32 x → b ≡ not (within sourceLimit (toZ w32 (ofZ w32 x))) → b ≡ false → within sourceLimit x ≡ true
-quiet {x = x} f e h = not-false (within sourceLimit x) (sym (rw (toZ-ofZ f) at e) ∙ h)
+quiet : {b : Bool} {x : ℤ} → SFits w32 x → b ≡ within sourceLimit (toZ w32 (ofZ w32 x)) → not b ≡ false → within sourceLimit x ≡ true
+quiet {b} f e h = sym (rw (toZ-ofZ f) at e) ∙ not-false b h
 
 lifting : {shape : Shape} {words adaptors leaves reactive : List ℕ} {xs ys ups ds : List ℤ} {x : ℤ}
     → LaidOut shape words adaptors leaves reactive xs ys ups ds → SFits w32 x → within sourceLimit x ≡ true → Lifts shape words adaptors ups (toZ w32 (ofZ w32 x))
@@ -39,7 +39,7 @@ returns : tie.Need-returns
 unfolding Works
 returns c =
     let start = c .before .before in
-    let loud = not-true (within sourceLimit (start .args .x)) (sym (rw (toZ-ofZ (start .fits .x)) at (c .before .loud .ensures)) ∙ c .if1 .taken) in
+    let loud = sym (rw (toZ-ofZ (start .fits .x)) at (c .before .in-source-limit .ensures)) ∙ not-true _ (c .if1 .taken) in
     record { works = λ r ws f l. (Sampling.refuses-loud f l (start .args .x) loud, l); room = start .pre .room }
 
 -- ---- up
@@ -52,7 +52,7 @@ module _ (c : tie.After-rise) where
   x = start .args .x
 
   in-limit : within sourceLimit x ≡ true
-  in-limit = quiet (start .fits .x) (c .before .before .before .loud .ensures) (c .before .before .if1 .left)
+  in-limit = quiet (start .fits .x) (c .before .before .before .in-source-limit .ensures) (c .before .before .if1 .left)
 
   abbrev above : List ℤ
   above = lifted (start .args .shape) (start .args .words .now) (start .args .adaptors .now) (start .args .up .now) x
@@ -74,7 +74,7 @@ returns-2 : tie.Need-returns-2
 unfolding Works
 returns-2 c =
     let at = c .before .before in
-    let over = not-true (within waveLimit (top at)) (sym (rw (top-there at) at (c .before .over .ensures)) ∙ c .if2 .taken) in
+    let over = sym (rw (top-there at) at (c .before .in-limit .ensures)) ∙ not-true _ (c .if2 .taken) in
     record {
       works = λ r ws f l. (
         Sampling.refuses-top f l (x at) (in-limit at) over,
@@ -86,7 +86,7 @@ returns-2 c =
 -- ---- the diode
 
 calm : (c : tie.Else2) → within waveLimit (top (c .before .before)) ≡ true
-calm c = let at = c .before .before in not-false (within waveLimit (top at)) (sym (rw (top-there at) at (c .before .over .ensures)) ∙ c .if2 .left)
+calm c = let at = c .before .before in sym (rw (top-there at) at (c .before .in-limit .ensures)) ∙ not-false _ (c .if2 .left)
 
 reflect-requires : tie.Need-reflect-requires
 reflect-requires c κs =

@@ -4,7 +4,7 @@ use mathlib.Core.Bool.{not}
 use borrow.Author.Needs.{needs}
 use Rattle.circuit.specs.Curve.{soundColumn, passesOrigin, columnRule}
 use Rattle.circuit.specs.Numbers.{handed, unless, lowest}
-use Rattle.setup.proofs.Chain.{first-then}
+use Rattle.laws.proofs.Chain.{first-then}
 use Rattle.setup.proofs.columns.column_rule.Statement.{statement}
 use Rattle.setup.proofs.columns.column_rule.Tie as tie
 
@@ -12,7 +12,7 @@ returns : tie.Need-returns
 unfolding columnRule
 returns c =
     let r = c .before .before .before .args .r in
-    ap handed (c .first .ensures)
+    ap handed (c .or .ensures)
     ∙ first-then 9 (lowest (λ i. not (soundColumn r i)) (r .width)) (unless (passesOrigin (r .kind) r) 0) (c .before .before .lowest-fault .result) (c .before .origin-rule .result) (c .before .before .lowest-fault .ensures) (c .before .origin-rule .ensures)
 
 pub column-rule-spec : {M : Type 1} → statement M

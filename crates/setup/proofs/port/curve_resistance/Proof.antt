@@ -7,7 +7,7 @@ use borrow.Author.Needs.{needs}
 use Rattle.circuit.specs.Numbers.{handed, unless}
 use Rattle.circuit.specs.Record.{rowLimit, lastRow}
 use Rattle.circuit.specs.SetUp.{fits, resistanceAt, curveResistanceRule}
-use Rattle.setup.specs.Answers.{numbered}
+use Rattle.laws.specs.Numbered.{numbered}
 use Rattle.setup.proofs.Rows.{resistance-at}
 use Rattle.setup.proofs.port.curve_resistance.Statement.{statement}
 use Rattle.setup.proofs.port.curve_resistance.Tie as tie

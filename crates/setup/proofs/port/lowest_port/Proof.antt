@@ -14,12 +14,12 @@ use Rattle.circuit.specs.SetUp.{inRange, resistanceAt, portResistanceRule, rati
 use Rattle.circuit.specs.declared.Prepared.{Prepared}
 use Rattle.circuit.specs.declared.Record.{Record}
 use Rattle.laws.proofs.Counting.{lowest-step, lowest-same}
-use Rattle.setup.specs.Answers.{numbered}
+use Rattle.laws.specs.Numbered.{numbered}
 use Rattle.setup.specs.Faults.{faultOf, portNumber, portRule}
 use Rattle.setup.specs.Rows.{past, Filled}
 use Rattle.setup.specs.declared.port.PortFault.{PortFault}
 use Rattle.setup.specs.declared.port.PortFault.the-variants.{Resistance, Ratio}
-use Rattle.setup.proofs.Chain.{stops, goes-through}
+use Rattle.laws.proofs.Chain.{stops, goes-through}
 use Rattle.setup.proofs.Rows.{resistance-at, fault-at}
 use Rattle.setup.proofs.port.lowest_port.Statement.{statement}
 use Rattle.setup.proofs.port.lowest_port.Tie as tie

@@ -6,7 +6,7 @@ use borrow.Author.Needs.{needs}
 use Rattle.circuit.specs.Numbers.{handed, passes, lowest}
 use Rattle.laws.proofs.Counting.{lowest-step}
 use Rattle.setup.specs.Faults.{faultNumber, placesOf, faultAt}
-use Rattle.setup.proofs.Chain.{stops, goes-through}
+use Rattle.laws.proofs.Chain.{stops, goes-through}
 use Rattle.setup.proofs.search.lowest_fault.Statement.{statement}
 use Rattle.setup.proofs.search.lowest_fault.Tie as tie
 

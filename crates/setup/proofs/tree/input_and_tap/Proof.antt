@@ -4,7 +4,7 @@ use mathlib.Core.Bool.{Bool}
 use borrow.Author.Needs.{needs}
 use Rattle.circuit.specs.Numbers.{handed, unless}
 use Rattle.circuit.specs.Record.{noRow, inputAndTapRule}
-use Rattle.setup.specs.Answers.{numbered}
+use Rattle.laws.specs.Numbered.{numbered}
 use Rattle.setup.proofs.tree.input_and_tap.Statement.{statement}
 use Rattle.setup.proofs.tree.input_and_tap.Tie as tie
 

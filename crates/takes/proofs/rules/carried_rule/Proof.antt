@@ -5,7 +5,7 @@ use borrow.Author.Needs.{needs}
 use Rattle.circuit.specs.Numbers.{handed, unless}
 use Rattle.circuit.specs.Record.{noRow}
 use Rattle.circuit.specs.Take.{carriedRule}
-use Rattle.setup.specs.Answers.{numbered}
+use Rattle.laws.specs.Numbered.{numbered}
 use Rattle.takes.proofs.rules.carried_rule.Statement.{statement}
 use Rattle.takes.proofs.rules.carried_rule.Tie as tie
 

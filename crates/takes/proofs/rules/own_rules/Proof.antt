@@ -4,7 +4,7 @@ use mathlib.Core.List.{[], _∷_}
 use borrow.Author.Needs.{needs}
 use Rattle.circuit.specs.Numbers.{handed, rule}
 use Rattle.circuit.specs.Take.{carriedRule, heldRule}
-use Rattle.setup.proofs.Chain.{first-judges, last-judges}
+use Rattle.laws.proofs.Chain.{first-judges, last-judges}
 use Rattle.takes.specs.Own.{ownRules}
 use Rattle.takes.proofs.rules.own_rules.Statement.{statement}
 use Rattle.takes.proofs.rules.own_rules.Tie as tie
@@ -15,7 +15,7 @@ returns c =
     let held = c .before in
     let sound = held .before in
     let k = sound .before .args .c in
-    ap handed (c .first .ensures) ∙ first-judges 11 carriedRule (rule 15 heldRule ∷ []) k _ _ (sound .carried-rule .ensures) (last-judges 15 heldRule k _ (held .held-rule .ensures))
+    ap handed (c .or .ensures) ∙ first-judges 11 carriedRule (rule 15 heldRule ∷ []) k _ _ (sound .carried-rule .ensures) (last-judges 15 heldRule k _ (held .held-rule .ensures))
 
 pub own-rules-spec : {M : Type 1} → statement M
 own-rules-spec = tie.close (tie.spec (λ c κs. search needs) (λ c κs. search needs) (λ c κs. search needs) returns)

@@ -1,8 +1,8 @@
--- `answer::number` meets its contract: each arm hands back the number that the table has for its case.
+-- `Answer::number` meets its contract: each arm hands back the number that the table has for its case.
 use borrow.Author.Needs.{needs}
 use Rattle.circuit.specs.Numbers.{handed}
-use Rattle.answer.proofs.number.Statement.{statement}
-use Rattle.answer.proofs.number.Tie as tie
+use Rattle.circuit.proofs.Answer.number.Statement.{statement}
+use Rattle.circuit.proofs.Answer.number.Tie as tie
 
 pub number-spec : {M : Type 1} → statement M
 unfolding handed
