@@ -1,5 +1,7 @@
 // Works a raw take through a circuit. Standard input has the circuit file and then the take; standard output gets the outputs and nothing
-// else. Standard error says in words why a circuit or a take is refused.
+// else. Standard error says in words why a circuit or a take is refused. An argument says how many samples are read and worked at a time.
+mod asked;
+
 ghost use Prim.Native.Nat.{_+_, _*_, _/_, _≤_};
 ghost use mathlib.Core.Path.{_≡_};
 ghost use lib.ListN.{length};
@@ -16,7 +18,8 @@ use libc::STDIN_FILENO;
 use libc::STDOUT_FILENO;
 use listing::ROOM;
 
-// A piece of a take, in samples: so many that setting the circuit up, which is done for every piece, is a small part of the work.
+// The largest piece of a take, in samples, and the usual one: so many that setting the circuit up, which is done for every piece, is a small
+// part of the work.
 const PIECE: usize = 10000;
 
 const PIECE_BYTES: usize = SAMPLE_LENGTH * PIECE;
@@ -85,29 +88,33 @@ fn work(r: Record, carried: Carried, bytes: &[u8], out: &mut [u8]) -> Worked
     }
 }
 
-fn work_piece(r: Record, carried: Carried) -> Worked
+// Reads as many bytes as `bytes` has room for, and works them.
+fn work_piece(r: Record, carried: Carried, bytes: &mut [u8], out: &mut [u8]) -> Worked
     requires { ⌜ carried .count ≤ leftLimit ⌝ }
+    requires { ⌜ length (now bytes) ≤ sampleLength * 10000 ⌝ }
+    requires { ⌜ length (now out) ≡ outputLength * 10000 ⌝ }
     ensures { λ w. ⌜ w .carried .count ≤ leftLimit ⌝ }
 {
-    let mut bytes = piece();
-    let count = io::read_full(STDIN_FILENO, &mut bytes);
-    let mut out = outputs();
+    let count = io::read_full(STDIN_FILENO, bytes);
     let room = room_for(carried.count, count);
     let worked = work(r, carried, &bytes[..count], &mut out[..room]);
     let after = worked.carried;
     Worked {
         carried: after,
         written: worked.written,
-        more: worked.more & (count == PIECE_BYTES),
+        more: worked.more & (count == bytes.len()),
     }
 }
 
-// Works a take, piece by piece, to its end or its first refused sample, and answers with its ending. Every piece but the last has whole
-// samples, and no take has more than TAKE_LIMIT.
-fn work_take(r: Record) -> Answer {
+// Works a take, piece by piece, to its end or its first refused sample, and answers with its ending. Every piece but the last fills `bytes`,
+// with whole samples, and no take has more than TAKE_LIMIT.
+fn work_take(r: Record, bytes: &mut [u8], out: &mut [u8]) -> Answer
+    requires { ⌜ length (now bytes) ≤ sampleLength * 10000 ⌝ }
+    requires { ⌜ length (now out) ≡ outputLength * 10000 ⌝ }
+{
     let mut carried = takes::start();
     for _ in 0..TAKE_LIMIT {
-        let worked = work_piece(r, carried);
+        let worked = work_piece(r, carried, bytes, out);
         let after = worked.carried;
         carried = after;
         if !worked.written {
@@ -120,23 +127,38 @@ fn work_take(r: Record) -> Answer {
     takes::finish(r, carried)
 }
 
-// Reads the circuit, and works the take that comes after it.
-fn run(s: &[u8]) -> Answer {
+// Reads the circuit, and works the take that comes after it in pieces of so many samples.
+fn run(s: &[u8], samples: usize) -> Answer
+    requires { ⌜ samples ≤ 10000 ⌝ }
+{
     let reading = file::read(s);
     let answer = reading.answer;
     if answer.number() != 0 {
         return answer;
     }
     let record = reading.record;
-    work_take(record)
+    let mut bytes = piece();
+    let mut out = outputs();
+    work_take(record, &mut bytes[..SAMPLE_LENGTH * samples], &mut out)
+}
+
+fn say_usage() {
+    say(
+        b"usage: take [SAMPLES] < INPUT, where INPUT is a circuit file and after it the take, read in pieces of 1 to 10000 SAMPLES\n",
+    );
 }
 
 fn main() {
+    let samples = asked::samples();
+    if samples == 0 {
+        say_usage();
+        return;
+    }
     let mut bytes = [0u8; FILE_LENGTH];
     let count = io::read_full(STDIN_FILENO, &mut bytes);
     if count == 0 {
-        say(b"usage: take < INPUT, where INPUT is a circuit file and after it the take\n");
+        say_usage();
     } else {
-        say_refusal(run(&bytes[..count]));
+        say_refusal(run(&bytes[..count], samples));
     }
 }
