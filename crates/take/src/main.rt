@@ -144,7 +144,7 @@ fn run(s: &[u8], samples: usize) -> Answer
 
 fn say_usage() {
     say(
-        b"usage: take [SAMPLES] < INPUT, where INPUT is a circuit file and after it the take, read in pieces of 1 to 10000 SAMPLES\n",
+        b"usage: take [N] < INPUT, where INPUT is a circuit file and after it the take, read N samples at a time, 1 to 10000\n",
     );
 }
 
