@@ -1,6 +1,6 @@
 #!/usr/bin/env python3
-# Draws speed.svg and fills in the tables of docs/SPEED.md, from what `speed/count` and `speed/time` printed: speed/before.count,
-# before.time, after.count and after.time. From the repository's root:
+# Draws speed.svg and fills in the tables of docs/SPEED.md, from what `speed/count` and `speed/time` printed: speed/before.count and
+# before.time, and as soon as they are there after.count and after.time. From the repository's root:
 #
 #     python3 docs/pictures/speed.py
 import os
@@ -11,17 +11,20 @@ ROOT = os.path.join(os.path.dirname(os.path.abspath(__file__)), "..", "..")
 PAGE = os.path.join(ROOT, "docs", "SPEED.md")
 
 
-def figures(name):
-    """The lines of a table as printed: what was measured, by the words that say of what."""
+def figures(name, words):
+    """The lines of a table as printed: by the words that say of what, what was measured."""
     with open(os.path.join(ROOT, "speed", name), encoding="utf-8") as file:
         rows = [line.split() for line in file if line.startswith(("chain", "tree"))]
-    words = 5 if name.endswith(".time") else 4
     return {tuple(row[:words]): [float(f) for f in row[words:]] for row in rows}
 
 
-BEFORE, AFTER = figures("before.count"), figures("after.count")
-BEFORE_TIME, AFTER_TIME = figures("before.time"), figures("after.time")
-SAMPLE_C, SAMPLE, CALL_C, CALL = 0, 1, 3, 4
+STATES = [name for name in ("before", "after") if os.path.exists(os.path.join(ROOT, "speed", name + ".count"))]
+COUNTS = {name: figures(name + ".count", 4) for name in STATES}
+TIMES = {name: figures(name + ".time", 5) for name in STATES}
+LAST = STATES[-1]
+
+# Where the costs stand in a line of counts: that of plain C, and after it that of `take`.
+SAMPLE, CALL = 0, 3
 
 
 # ---- tables
@@ -34,37 +37,45 @@ def table(head, rows):
     return "\n".join([line(head), "|" + "---|" * len(head), *map(line, rows)])
 
 
-def count_row(case):
-    before, after = BEFORE[case], AFTER[case]
-    costs = []
-    for c, take, shown in ((SAMPLE_C, SAMPLE, "{:.0f}"), (CALL_C, CALL, "{:,.0f}")):
-        costs += [shown.format(f) for f in (after[c], before[take], after[take])] + [f"{after[take] / after[c]:.2f}"]
-    return [*case, *costs]
+def costs(place, case, shown):
+    c = COUNTS[LAST][case][place]
+    takes = [COUNTS[name][case][place + 1] for name in STATES]
+    return [shown.format(f) for f in (c, *takes)] + [f"{takes[-1] / c:.2f}"]
 
 
-def time_row(case):
-    before, after = BEFORE_TIME[case], AFTER_TIME[case]
-    shape, rows, width, _, piece = case
-    shown = lambda c, take, ratio: [f"{c:.0f}", f"{take:.0f}", f"{ratio:.2f}"]
-    return [shape, rows, width, f"{int(piece):,}", *shown(*before), *shown(*after)]
+def count_table():
+    head = [*STATES, f"{LAST} / C"]
+    rows = ([*case, *costs(SAMPLE, case, "{:.0f}"), *costs(CALL, case, "{:,.0f}")] for case in COUNTS[LAST])
+    return table(["shape", "rows", "columns", "curve", "sample: C", *head, "call: C", *head], rows)
 
 
-def growth(words, figure, least, most, steps):
-    """What one step more costs, between two cases that are so many steps apart."""
-    c, take = figure
-    rise = lambda counts, place: (counts[most][place] - counts[least][place]) / steps
-    return [words, *(f"{f:.1f}" for f in (rise(AFTER, c), rise(BEFORE, take), rise(AFTER, take)))]
+def time_table():
+    head = [word for name in STATES for word in ("C", name, f"{name} / C")]
+    rows = []
+    for case in TIMES[LAST]:
+        shape, count, width, _, piece = case
+        measured = [text for name in STATES for text in map("{:.{}f}".format, TIMES[name][case], (0, 0, 2))]
+        rows.append([shape, count, width, f"{int(piece):,}", *measured])
+    return table(["shape", "rows", "columns", "samples of a call", *head], rows)
 
 
-def growths():
+def growth(words, place, least, most, steps):
+    """What one step more costs, between two chains that are so many steps apart."""
+    rise = lambda name, place: (COUNTS[name][most][place] - COUNTS[name][least][place]) / steps
+    return [words, *(f"{f:,.1f}" for f in (rise(LAST, place), *(rise(name, place + 1) for name in STATES)))]
+
+
+def growth_table():
     chain = lambda rows, width, kind: ("chain", str(rows), str(width), kind)
-    sample, call = (SAMPLE_C, SAMPLE), (CALL_C, CALL)
-    return [
-        growth("a sample, for each adaptor, that is two rows", sample, chain(3, 2, "pair"), chain(31, 2, "pair"), 14),
-        growth("a sample, for each column of a single", sample, chain(31, 2, "single"), chain(31, 62, "single"), 60),
-        growth("a call, for each row", call, chain(3, 2, "pair"), chain(31, 2, "pair"), 28),
-        growth("a call, for each column", call, chain(31, 2, "pair"), chain(31, 62, "pair"), 60),
-    ]
+    small, tall, wide = chain(3, 2, "pair"), chain(31, 2, "pair"), chain(31, 62, "pair")
+    return table(
+        ["instructions of", "C", *STATES], [
+            growth("a sample, for each adaptor, that is two rows", SAMPLE, small, tall, 14),
+            growth("a sample, for each column of a pair", SAMPLE, tall, wide, 60),
+            growth("a sample, for each column of a single", SAMPLE, chain(31, 2, "single"), chain(31, 62, "single"), 60),
+            growth("a call, for each row", CALL, small, tall, 28),
+            growth("a call, for each column", CALL, tall, wide, 60),
+        ])
 
 
 def put(page, name, text):
@@ -77,19 +88,19 @@ def put(page, name, text):
 def fill_in():
     with open(PAGE, encoding="utf-8") as file:
         page = file.read()
-    costs = ["before", "after", "after / C"]
-    page = put(page, "counts", table(["shape", "rows", "columns", "curve", "sample: C", *costs, "call: C", *costs], map(count_row, AFTER)))
-    page = put(page, "growth", table(["instructions of", "C", "before", "after"], growths()))
-    head = ["shape", "rows", "columns", "samples of a call", "C", "before", "before / C", "C", "after", "after / C"]
-    page = put(page, "times", table(head, map(time_row, AFTER_TIME)))
+    for name, text in (("counts", count_table()), ("growth", growth_table()), ("times", time_table())):
+        page = put(page, name, text)
     with open(PAGE, "w", encoding="utf-8", newline="\n") as file:
         file.write(page)
 
 
 # ---- the picture: both costs against the rows, of a chain with a pair
 
-ROWS = [3, 15, 31]
-LINES = [("before", DOWN, BEFORE, 1), ("after", UP, AFTER, 1), ("plain C", INK, AFTER, 0)]
+ROWS = ["3", "15", "31"]
+INKS = {"before": DOWN, "after": UP}
+
+# A line's name, its ink, its counts, and whether they are those of `take`.
+LINES = [(name, INKS[name], COUNTS[name], 1) for name in STATES] + [("plain C", INK, COUNTS[LAST], 0)]
 
 
 class Plot:
@@ -103,12 +114,13 @@ class Plot:
             p.run([self.on(0, value), self.on(32, value)], ink=GREY if value == 0 else "#ddd", width=1)
             p.text(x - 8, self.on(0, value)[1] + 4, f"{value:,}", "end", 11, GREY)
         for rows in ROWS:
-            p.run([self.on(rows, 0), (self.on(rows, 0)[0], y + self.height + 5)], ink=GREY, width=1)
-            p.text(self.on(rows, 0)[0], y + self.height + 20, str(rows), "middle", 11, GREY)
+            across, _ = self.on(int(rows), 0)
+            p.run([(across, y + self.height), (across, y + self.height + 5)], ink=GREY, width=1)
+            p.text(across, y + self.height + 20, rows, "middle", 11, GREY)
         p.text(x + self.width / 2, y + self.height + 40, "rows", "middle", 12, GREY)
         for _, ink, counts, take in LINES:
             for width, dash in (("2", ""), ("62", "6 4")):
-                points = [self.on(rows, counts["chain", str(rows), width, "pair"][place + take]) for rows in ROWS]
+                points = [self.on(int(rows), counts["chain", rows, width, "pair"][place + take]) for rows in ROWS]
                 p.run(points, ink=ink, width=2, dash=dash)
                 for point in points:
                     p.circle(*point, 3, ink=ink, fill=ink)
@@ -121,10 +133,10 @@ def picture():
     said = ["Chains of 3, 15 and 31 rows with a pair. At 31 rows and 62 columns, instructions for a sample and for a call:"]
     for name, _, counts, take in LINES:
         most = counts["chain", "31", "62", "pair"]
-        said.append(f"{name} {most[SAMPLE_C + take]:.0f} and {most[CALL_C + take]:,.0f}.")
+        said.append(f"{name} {most[SAMPLE + take]:.0f} and {most[CALL + take]:,.0f}.")
     p = Picture("speed.svg", 900, 420, "Instructions for a sample and for a call, against the rows of a circuit", said)
-    Plot(p, 80, 70, "Instructions for each sample", SAMPLE_C, 1000, 250)
-    Plot(p, 520, 70, "Instructions for a call", CALL_C, 80_000, 20_000)
+    Plot(p, 80, 70, "Instructions for each sample", SAMPLE, 1000, 250)
+    Plot(p, 520, 70, "Instructions for a call", CALL, 80_000, 20_000)
     x = 80
     for name, ink, _, _ in LINES:
         p.run([(x, 398), (x + 28, 398)], ink=ink, width=2)

@@ -1,4 +1,4 @@
--- `work_take` is safe: at every turn no more bytes are carried than can be left over.
+-- `work_take` is safe: at every turn no more bytes are carried than can be left over, and the buffers keep their lengths.
 use Prim.Native.Nat.{_-_, _≤_}
 use native.Mathlib.Omega.{arith}
 use mathlib.Core.Path.{_≡_}
