@@ -18,7 +18,8 @@ slice-aggregate-write-all c = sym (length-take-le _ _ (outputs-inside (c .before
 
 returns : tie.Need-returns
 returns c =
-    let fed = c .before .before .before .before .before .before .before in
+    let part = c .before .before .before in
+    let fed = part .before .before .before .before in
     few-left (fed .feed .ensures) (fed .before .before .before .before .pre)
 
 pub work-spec : {M : Type 1} → statement M
