@@ -1,235 +1,240 @@
--- The sweep down leaves at each adaptor's children what it sends them from its own row, since a child has no other adaptor above it and stands
--- in a lower row. So each leaf's row holds the wave that the tree's own recursion brings there.
+-- The sweep down. An adaptor's children hold what it sends them from its own slot, and no later turn changes that: a child has no other adaptor
+-- above it, and stands below its own. So in the end each leaf's slot holds what the tree's own recursion brings there.
 use Prim.Native.Nat.{ℕ, zero, suc, _+_, _-_, _<_, _≤_}
 use native.Mathlib.Decide.{ℕ-discrete}
 use native.Mathlib.Omega.{arith}
 use mathlib.Core.Path.{_≡_, refl, sym, ap, _∙_, subst}
-use mathlib.Core.Bool.{true}
-use mathlib.Core.Logic.{_⊎_, inl, inr, ⊎-elim}
-use mathlib.Core.List.{List}
+use mathlib.Core.Bool.{Bool, true, false, cond, _||_}
+use mathlib.Core.List.{List, [], _∷_}
+use lib.Dec.{T, eqb→eq}
 use lib.ListN.{getD, length, set, length-set}
 use lib.Seq.{getD-set-same, getD-set-other, lt-length-set}
-use lib.IntN.{ℤ, pos}
+use lib.IntN.{ℤ, pos, natAbs}
 use Rattle.whole.specs.Order.{Abs, abs-as}
-use Rattle.circuit.specs.Record.{partAt, treeAt, rowLimit, isAdaptor}
-use Rattle.circuit.specs.SetUp.{ratioAt, parts}
-use Rattle.circuit.specs.Sample.{sendsUp, sendsFirst, sendsSecond, up, storedAt, rounded}
+use Rattle.circuit.specs.Record.{partAt, leaf, treeAt, treeOf, lastRow}
+use Rattle.circuit.specs.SetUp.{ratioAt}
+use Rattle.circuit.specs.Curve.{waveLimit}
+use Rattle.circuit.specs.Sample.{rounded, reach, holds, storedAt}
+use Rattle.circuit.specs.declared.Join.{Join}
 use Rattle.circuit.specs.declared.Adaptor.{Adaptor as Joint}
 use Rattle.circuit.specs.declared.Part.{Part}
 use Rattle.circuit.specs.declared.Part.the-variants.{Blank, Leaf, Adaptor}
 use Rattle.circuit.specs.declared.Record.{Record}
-use Rattle.circuit.specs.Curve.{waveLimit}
-use Rattle.engine.specs.Plan.{rank}
-use Rattle.laws.specs.Accepted.{adaptorLimit, Child, Apart, adaptors}
-use Rattle.laws.proofs.Formed.{child-lower}
-use Rattle.engine.specs.Wave.{upLimit, downLimit}
-use Rattle.engine.specs.Sweep.{linkAt, lowered, Lowers, dropped, Drops}
-use Rattle.engine.proofs.Range.{first-range, second-range}
-use Rattle.theorems.proofs.Bound.{rounded-down-errs}
-use Rattle.engine.proofs.Ranks.{rank-rises, rank-order, has-place}
-use Rattle.engine.proofs.Stages.{children-lower, children-few, adaptors-most, adaptorRank, Lined, Stage, stage-at, row-there}
+use Rattle.laws.specs.Accepted.{adaptorLimit}
+use Rattle.laws.proofs.Trees as Trees
+use Rattle.engine.specs.Wave.{downLimit, Beneath}
+use Rattle.engine.specs.Plan.{floor, slotOf, topSlot, Joints}
+use Rattle.engine.specs.Sweep.{rises, Risen, Swept, Modest, Drops, Reached}
+use Rattle.engine.proofs.Range.{sendsTo, down-range}
+use Rattle.engine.proofs.Turn.{childOf, child-there, child-under, parent-is, same-row, adaptor-slot, read, readAt, read-as, Turn}
+use Rattle.engine.proofs.Turn.{child-inside, own-slot, child-slot, slots-apart, slot-inside, rises-range, few, both-few}
+use Rattle.engine.proofs.Turn.{ratio-read, wave-read, sends-right, below}
 
--- ---- two stores
+-- ---- what holds of every wave, and of one that is stored, holds of every wave afterwards
 
-module _ (ds : List ℤ) (a b : ℕ) (x y : ℤ) where
-  elsewhere : (k : ℕ) → (k ≡ a → ⊥) → (k ≡ b → ⊥) → storedAt (set (set ds a x) b y) k ≡ storedAt ds k
-  elsewhere k p q = getD-set-other (set ds a x) b k y (pos 0) q ∙ getD-set-other ds a k x (pos 0) p
+stored-each : {A : Type 0} (P : A → Type 0) (d v : A) → P v → (l : List A) → ((j : ℕ) → P (getD l j d)) → (i j : ℕ) → P (getD (set l i v) j d)
+stored-each P d v p [] h i j = h j
+stored-each P d v p (a ∷ l) h zero zero = p
+stored-each P d v p (a ∷ l) h zero (suc j) = h (suc j)
+stored-each P d v p (a ∷ l) h (suc i) zero = h zero
+stored-each P d v p (a ∷ l) h (suc i) (suc j) = stored-each P d v p l (λ k. h (suc k)) i j
 
-  at-first : (a ≡ b → ⊥) → a < length ds → storedAt (set (set ds a x) b y) a ≡ x
-  at-first n h = getD-set-other (set ds a x) b a y (pos 0) n ∙ getD-set-same ds a x (pos 0) h
+pub modest-set : {ds : List ℤ} → Modest ds → (i : ℕ) {v : ℤ} → Abs v (downLimit adaptorLimit) → Modest (set ds i v)
+modest-set {ds} m i {v} h = record {
+  long = length-set ds i v ∙ m .long;
+  small = stored-each (λ z. Abs z (downLimit adaptorLimit)) (pos 0) v h ds (m .small) i;
+}
 
-  at-second : b < length ds → storedAt (set (set ds a x) b y) b ≡ y
-  at-second h = getD-set-same (set ds a x) b y (pos 0) (lt-length-set ds a x h)
+-- ---- the adaptors that have sent
 
-child-first : (a : Joint) → Child (Adaptor a) (a .first)
-unfolding Child
-child-first a = inl refl
+-- what the adaptor at row p sends to a side, with a3 from above
+abbrev falls : Record → (ℕ → ℤ) → ℕ → Joint → ℤ → Bool → ℤ
+falls r w p a a3 side = sendsTo side (a .join) (ratioAt r p) (rises r w (a .first)) (rises r w (a .second)) a3
 
-child-second : (a : Joint) → Child (Adaptor a) (a .second)
-unfolding Child
-child-second a = inr refl
+-- its children hold that, and no more than can come past it and all adaptors with higher slots
+pub record Sent (r : Record) (w : ℕ → ℤ) (p : ℕ) (a : Joint) (ds : List ℤ) : Type 0 where
+  pub waves : (side : Bool) → storedAt ds (slotOf r (childOf a side)) ≡ falls r w p a (storedAt ds (slotOf r p)) side
+  pub small : (side : Bool) → Abs (storedAt ds (slotOf r (childOf a side))) (downLimit (suc (topSlot r - slotOf r p)))
 
-children-of : (a : Joint) (c : ℕ) → Child (Adaptor a) c → (c ≡ a .first) ⊎ (c ≡ a .second)
-unfolding Child
-children-of a c h = h
+-- those with slots above m have sent
+pub record Falling (r : Record) (w : ℕ → ℤ) (top : ℤ) (m : ℕ) (ds : List ℤ) : Type 0 where
+  pub modest : Modest ds
+  pub above : storedAt ds (topSlot r) ≡ top
+  pub quiet : Abs top waveLimit
+  pub sent : (p : ℕ) (a : Joint) → p < r .count → partAt r p ≡ Adaptor a → m < slotOf r p → Sent r w p a ds
 
--- what has a child is an adaptor
-parent-of : (p : Part) (c : ℕ) → Child p c → (a : Joint) × (p ≡ Adaptor a) × Child (Adaptor a) c
-unfolding Child
-parent-of Blank c h = absurd h
-parent-of (Leaf x) c h = absurd h
-parent-of (Adaptor a) c h = (a, refl, h)
+pub falling-begun : {js : Joints} {n : ℕ} {ups ds : List ℤ} (d : Drops js n ups ds)
+    → Falling (d .swept .circuit) (d .swept .wave) (storedAt ds (topSlot (d .swept .circuit))) (floor + n) ds
+falling-begun d = record {
+  modest = d .modest;
+  above = refl;
+  quiet = rw (← d .swept .all) (d .answer);
+  sent = λ p a l e h. absurd (omega (arith, adaptor-slot (d .swept .slotted) p l e, d .swept .all));
+}
 
-apart-of : (a : Joint) → Apart (Adaptor a) → a .first ≡ a .second → ⊥
-unfolding Apart
-apart-of a h = h
+-- ---- the turn of the sweep down
 
-module _ {r : Record} {words rows : List ℕ} {n : ℕ} (lined : Lined r words rows n) (ups : List ℤ) where
-  -- the children of adaptor a at row p hold what it sends them
-  pub record Sends (p : ℕ) (a : Joint) (ds : List ℤ) : Type 0 where
-    pub first : storedAt ds (a .first) ≡ sendsFirst rounded (a .join) (ratioAt r p) (storedAt ups (a .first)) (storedAt ups (a .second)) (storedAt ds p)
-    pub second : storedAt ds (a .second) ≡ sendsSecond rounded (a .join) (ratioAt r p) (storedAt ups (a .first)) (storedAt ups (a .second)) (storedAt ds p)
+module _ {js : Joints} {n : ℕ} (s : Swept js n) where
+  open Swept s using (circuit as r, wave as w, accepted, slotted, all)
 
-  -- the adaptors from place k on have sent
-  pub record Falling (top : ℤ) (k : ℕ) (ds : List ℤ) : Type 0 where
-    pub long : length ds ≡ rowLimit
-    pub above : storedAt ds (r .count - 1) ≡ top
-    pub sends : (p : ℕ) (a : Joint) → p < r .count → partAt r p ≡ Adaptor a → k ≤ adaptorRank r p → Sends p a ds
+  module _ {own : ℕ} {j : Join} {slots : Bool → ℕ} {g : ℤ} (t : Turn r own j slots g) {top : ℤ} {ds : List ℤ} (falling : Falling r w top own ds) where
+    open Turn t using (row, joint, inside, part, place, join, child)
 
-  module _ (top : ℤ) (k : ℕ) (s : Stage r words rows k) (ds : List ℤ) (falling : Falling top (suc k) ds) where
-    abbrev a : Joint
-    a = s .joint
+    -- its own wave came from the top, or from the adaptor above
+    own-range : Abs (storedAt ds own) (downLimit (topSlot r - own))
+    own-range = elim (ℕ-discrete row (r .count - 1)) [
+      | yes e ↦ abs-as (falling .quiet) (sym (ap (storedAt ds) (sym place ∙ ap (slotOf r) e ∙ slotted .last) ∙ falling .above)) (omega arith)
+      | no f ↦
+          let p = accepted .used row (omega (arith, inside)) in
+          let a = parent-is (partAt r (p .0)) row (p .1 .child) in
+          let higher : own < slotOf r (p .0) = rw (← place) (slotted .above (p .0) row (p .1 .child)) in
+          abs-as (falling .sent (p .0) (a .0) (p .1 .inside) (a .2) higher .small (a .1)) (ap (storedAt ds) (ap (slotOf r) (sym (a .3)) ∙ place))
+          (omega (arith, adaptor-slot slotted (p .0) (p .1 .inside) (a .2)))
+    ]
 
-    b1 : ℤ
-    b1 = sendsFirst rounded (a .join) (ratioAt r (s .row)) (storedAt ups (a .first)) (storedAt ups (a .second)) (storedAt ds (s .row))
+    own-read : readAt ds own ≡ storedAt ds own
+    own-read = read-as refl own-range (omega (arith, own-slot s t, slotted .few))
 
-    b2 : ℤ
-    b2 = sendsSecond rounded (a .join) (ratioAt r (s .row)) (storedAt ups (a .first)) (storedAt ups (a .second)) (storedAt ds (s .row))
+    module _ {ups : List ℤ} (risen : Risen r w (suc floor + n) ups) where
+      enough : own ≤ suc floor + n
+      enough = omega (arith, own-slot s t, all)
 
-    after : List ℤ
-    after = set (set ds (a .first) b1) (a .second) b2
+      pub beneath : Beneath j (read g) (readAt ups (slots true)) (readAt ups (slots false)) (readAt ups own) (readAt ds own)
+      beneath = record {
+        below = below s t enough risen;
+        sent = read-as (ap (storedAt ups) (sym place) ∙ risen .right row inside (omega (arith, place, enough, own-slot s t, all)))
+            (rises-range s t row) (omega (arith, few s t row inside)) ∙ sym (sends-right s t enough risen);
+        above = rw own-read (abs-as own-range refl (omega (arith, own-slot s t, slotted .few)));
+      }
 
-    lower : (a .first < s .row) × (a .second < s .row)
-    lower = children-lower r (lined .accepted) (s .row) (s .joint) (s .part)
+      -- `v` is what is sent to each side
+      module _ (v : Bool → ℤ)
+          (e : (side : Bool) → v side ≡ sendsTo side j (natAbs (read g)) (readAt ups (slots true)) (readAt ups (slots false)) (readAt ds own)) where
+        after : List ℤ
+        after = set (set ds (slots true) (read (v true))) (slots false) (read (v false))
 
-    room : s .row < length ds
-    room = let short = lined .accepted .short in let inside = s .inside in omega (arith, falling .long)
+        sent-range : (side : Bool) → Abs (falls r w row joint (storedAt ds own) side) (downLimit (suc (topSlot r - own)))
+        sent-range side =
+            abs-as (down-range (ratioAt r row) (accepted .ratio row) (rises-range s t _) (rises-range s t _) own-range side (joint .join)) refl
+            (omega (arith, both-few s t))
 
-    -- a row that is not below this adaptor keeps its wave
-    kept : (j : ℕ) → (Child (Adaptor a) j → ⊥) → storedAt after j ≡ storedAt ds j
-    unfolding after Child
-    kept j free = elsewhere ds (a .first) (a .second) b1 b2 j (λ e. free (inl e)) (λ e. free (inr e))
+        sent-read : (side : Bool) → read (v side) ≡ falls r w row joint (storedAt ds own) side
+        sent-read side =
+            let waves = wave-read s t enough risen in
+            read-as (e side ∙ rw (waves true, waves false, own-read, join, ratio-read s t)) (sent-range side)
+            (omega (arith, own-slot s t, slotted .few))
 
-    -- and so does one that stands no lower
-    higher : (j : ℕ) → s .row ≤ j → storedAt after j ≡ storedAt ds j
-    higher j l = kept j (λ c. ⊎-elim (λ e. omega (arith, lower)) (λ e. omega (arith, lower)) (children-of a j c))
+        room : (side : Bool) → slots side < length ds
+        room side = omega (arith, slot-inside s t side, falling .modest .long)
 
-    here : Sends (s .row) a after
-    unfolding after b1 b2
-    here = record {
-      first = at-first ds (a .first) (a .second) b1 b2 (apart-of a (subst Apart (s .part) (lined .accepted .apart (s .row)))) (omega (arith, lower, room))
-          ∙ ap (sendsFirst rounded (a .join) (ratioAt r (s .row)) (storedAt ups (a .first)) (storedAt ups (a .second))) (sym (higher (s .row) (omega arith)));
-      second = at-second ds (a .first) (a .second) b1 b2 (omega (arith, lower, room))
-          ∙ ap (sendsSecond rounded (a .join) (ratioAt r (s .row)) (storedAt ups (a .first)) (storedAt ups (a .second))) (sym (higher (s .row) (omega arith)));
+        -- the children have what is sent, and every other slot what it had
+        at-child : (side : Bool) → storedAt after (slots side) ≡ falls r w row joint (storedAt ds own) side
+        unfolding after
+        at-child true = let apart = slots-apart s t in let inside = room true in rw (getD-set-other, getD-set-same) (sent-read true)
+        at-child false = let inside = lt-length-set ds (slots true) (read (v true)) (room false) in rw getD-set-same (sent-read false)
+
+        elsewhere : (x : ℕ) → ((side : Bool) → x ≡ slots side → ⊥) → storedAt after x ≡ storedAt ds x
+        unfolding after
+        elsewhere x free = let first = free true in let second = free false in rw (getD-set-other, getD-set-other)
+
+        higher : (x : ℕ) → own ≤ x → storedAt after x ≡ storedAt ds x
+        higher x l = elsewhere x (λ side q. omega (arith, child-slot s t side))
+
+        here : Sent r w row joint after
+        here = record {
+          waves = λ side. rw (← child side, place, higher own (omega arith)) (at-child side);
+          small = λ side. rw (← child side, place, at-child side) (sent-range side);
+        }
+
+        -- a child of another adaptor is none of this one's
+        others : (p : ℕ) (a : Joint) → p < r .count → partAt r p ≡ Adaptor a → own < slotOf r p → Sent r w p a after
+        others p a l q h =
+            let old = falling .sent p a l q h in
+            let kept : (side : Bool) → storedAt after (slotOf r (childOf a side)) ≡ storedAt ds (slotOf r (childOf a side)) =
+            λ side. elsewhere (slotOf r (childOf a side)) (λ mine shared.
+            let c = same-row slotted _ _ (omega (arith, l, child-under p (accepted .lower p) q side)) (child-inside s t mine) (shared ∙ child mine) in
+            let same = accepted .once p row (childOf a side) (child-there q side) (rw c (child-there part mine)) in
+            omega (arith, ap (slotOf r) same, place)) in
+            record {
+              waves = λ side. rw (kept side, higher (slotOf r p) (omega arith)) (old .waves side);
+              small = λ side. rw (kept side) (old .small side);
+            }
+
+        pub fallen : {m : ℕ} → own ≤ suc m → Falling r w top m (set (set ds (slots true) (read (v true))) (slots false) (read (v false)))
+        unfolding after
+        fallen more =
+            let small : (side : Bool) → Abs (read (v side)) (downLimit adaptorLimit) =
+            λ side. abs-as (sent-range side) (sym (sent-read side)) (omega (arith, own-slot s t, slotted .few)) in
+            record {
+              modest = modest-set (modest-set (falling .modest) (slots true) (small true)) (slots false) (small false);
+              above = higher (topSlot r) (own-slot s t .1) ∙ falling .above;
+              quiet = falling .quiet;
+              sent = λ p a l q h. elim (ℕ-discrete (slotOf r p) own) [
+                | yes mine ↦
+                    let same : p ≡ row = same-row slotted p row l inside (mine ∙ sym place) in
+                    let parts : Adaptor a ≡ Adaptor joint = sym q ∙ ap (partAt r) same ∙ part in
+                    let joints : a ≡ joint = cc in
+                    rw (same, joints) here
+                | no f ↦ others p a l q (omega arith)
+              ];
+            }
+
+-- ---- all adaptors have sent: from the top down, on the side whose tree holds the leaf
+
+goes-on : (b : Bool) (f : ℕ → Bool) (x y : ℕ) → f x ≡ b → T (f x || f y) → T (f (cond b x y))
+goes-on true f x y e h = subst T (sym e) tt
+goes-on false f x y e h = rw e at h
+
+module _ {js : Joints} {n : ℕ} (s : Swept js n) {top : ℤ} {m : ℕ} {ds : List ℤ} (low : m ≤ floor) (falling : Falling (s .circuit) (s .wave) top m ds)
+    (j : ℕ) where
+  open Swept s using (circuit as r, wave as w, accepted, slotted)
+
+  abbrev reaches : ℕ → ℤ → ℤ
+  reaches i a3 = reach rounded (ratioAt r) w (treeAt r i) a3 j
+
+  -- the leaf has what reaches it from row i
+  abbrev Goes : ℕ → Type 0
+  Goes i = T (holds (treeAt r i) j) → storedAt ds (slotOf r j) ≡ reaches i (storedAt ds (slotOf r i))
+
+  at-leaf : (i : ℕ) → treeAt r i ≡ leaf i → Goes i
+  unfolding holds
+  at-leaf i t held =
+      sym (ap (λ x. storedAt ds (slotOf r x)) (eqb→eq i j (subst (λ x. T (holds x j)) t held)))
+      ∙ sym (Trees.reach-leaf r (accepted .lower) i t rounded (ratioAt r) w (storedAt ds (slotOf r i)) j)
+
+  by-side : (i : ℕ) (a : Joint) (a3 : ℤ) (side : Bool)
+      → cond side (reaches (a .first) (falls r w i a a3 true)) (reaches (a .second) (falls r w i a a3 false))
+      ≡ reaches (childOf a side) (falls r w i a a3 side)
+  by-side i a a3 true = refl
+  by-side i a a3 false = refl
+
+  one-down : (i : ℕ) → i < r .count → ((c : ℕ) → c < i → Goes c) → (p : Part) → partAt r i ≡ p → Goes i
+  unfolding holds
+  one-down i l deeper Blank e = at-leaf i (Trees.tree-blank r (accepted .lower) i e)
+  one-down i l deeper (Leaf x) e = at-leaf i (Trees.tree-leaf r (accepted .lower) i x e)
+  one-down i l deeper (Adaptor a) e = λ held.
+      let a3 = storedAt ds (slotOf r i) in
+      let side = holds (treeAt r (a .first)) j in
+      let either = subst (λ x. T (holds x j)) (Trees.tree-adaptor r (accepted .lower) i a e) held in
+      let sent = falling .sent i a l e (omega (arith, adaptor-slot slotted i l e)) in
+      deeper (childOf a side) (child-under i (accepted .lower i) e side) (goes-on side (λ x. holds (treeAt r x) j) (a .first) (a .second) refl either)
+      ∙ ap (reaches (childOf a side)) (sent .waves side)
+      ∙ sym (Trees.reach-adaptor r (accepted .lower) i a e rounded (ratioAt r) w a3 j ∙ by-side i a a3 side)
+
+  all-down : (d i : ℕ) → i < d → i < r .count → Goes i
+  all-down zero i h l = absurd (omega arith)
+  all-down (suc d) i h l = one-down i l (λ c m. all-down d c (omega arith) (omega arith)) (partAt r i) refl
+
+pub reached : {js : Joints} {n : ℕ} (s : Swept js n) {m : ℕ} → m ≤ floor → {before ds : List ℤ}
+    → Falling (s .circuit) (s .wave) (storedAt before (topSlot (s .circuit))) m ds → Reached (s .circuit) (s .wave) before ds
+unfolding treeOf lastRow
+reached s low {ds = ds} falling =
+    let r = s .circuit in
+    let last : r .count - 1 < r .count = omega (arith, s .accepted .some) in
+    record {
+      modest = falling .modest;
+      above = falling .above;
+      leaves = λ j e.
+          all-down s low falling j (r .count) (r .count - 1) last last (s .accepted .held j (subst T (sym e) tt))
+          ∙ ap (λ a3. reach rounded (ratioAt r) (s .wave) (treeOf r) a3 j) (ap (storedAt ds) (s .slotted .last) ∙ falling .above);
     }
-
-    module _ (p : ℕ) (b : Joint) (l : p < r .count) (e : partAt r p ≡ Adaptor b) (h : suc k ≤ adaptorRank r p) where
-      above-here : s .row < p
-      above-here = let place = s .place in rank-order (λ i. isAdaptor (partAt r i)) (s .row) p (omega arith)
-
-      -- its children have no other adaptor above them
-      kept-child : (c : ℕ) → Child (Adaptor b) c → storedAt after c ≡ storedAt ds c
-      kept-child c child = kept c (λ o.
-          let same : p ≡ s .row = lined .accepted .once p (s .row) c (subst (λ (x : Part). Child x c) (sym e) child) (subst (λ (x : Part). Child x c) (sym (s .part)) o) in
-          omega (arith, above-here))
-
-      others : Sends p b after
-      others =
-          let old = falling .sends p b l e h in
-          record {
-            first = kept-child (b .first) (child-first b) ∙ old .first
-                ∙ ap (sendsFirst rounded (b .join) (ratioAt r p) (storedAt ups (b .first)) (storedAt ups (b .second))) (sym (higher p (omega (arith, above-here))));
-            second = kept-child (b .second) (child-second b) ∙ old .second
-                ∙ ap (sendsSecond rounded (b .join) (ratioAt r p) (storedAt ups (b .first)) (storedAt ups (b .second))) (sym (higher p (omega (arith, above-here))));
-          }
-
-    sent : (p : ℕ) (b : Joint) → p < r .count → partAt r p ≡ Adaptor b → k ≤ adaptorRank r p → Sends p b after
-    sent p b l e h = by (ℕ-discrete (adaptorRank r p) k)
-      where
-        by : Dec (adaptorRank r p ≡ k) → Sends p b after
-        by (yes q) =
-            let same : p ≡ s .row = row-there lined k s p l (ap isAdaptor e) q in
-            let parts : Adaptor b ≡ Adaptor (s .joint) = sym e ∙ ap (partAt r) same ∙ s .part in
-            let joint : b ≡ s .joint = cc in
-            rw (same, joint) here
-        by (no q) = others p b l e (omega arith)
-
-    next : Falling top k (lowered (linkAt words (getD rows k 0)) (getD rows k 0) ups ds)
-    unfolding lowered after b1 b2
-    next = rw (s .listed, s .link) (record {
-      long = simp length-set (falling .long);
-      above = higher (r .count - 1) (let inside = s .inside in omega arith) ∙ falling .above;
-      sends = sent;
-    })
-
-  -- ---- the sizes of the waves that come down: each adaptor on the way adds no more than it can send up
-
-  module _ (risen : (j : ℕ) → j < r .count → Abs (storedAt ups j) (upLimit (adaptors (treeAt r j)))) (top : ℤ) (small : Abs top waveLimit) where
-    -- past the adaptors that stand above the one at row p, of which there are no more than have a higher rank
-    abbrev limit : ℕ → ℕ
-    limit p = downLimit (n - suc (adaptorRank r p))
-
-    module _ (k : ℕ) (ds : List ℤ) (falling : Falling top (suc k) ds) where
-      -- below an adaptor that has sent
-      below : (p : ℕ) (a : Joint) → p < r .count → partAt r p ≡ Adaptor a → suc k ≤ adaptorRank r p → {e : ℕ} → Abs (storedAt ds p) e
-          → (c : ℕ) → Child (Adaptor a) c → Abs (storedAt ds c) (e + upLimit adaptorLimit)
-      below p a l e h size c child =
-          let sends = falling .sends p a l e h in
-          let lower = children-lower r (lined .accepted) p a e in
-          let few = children-few r (lined .accepted) p a l e in
-          let less = lined .accepted .ratio p in
-          let r1 = risen (a .first) (omega arith) in
-          let r2 = risen (a .second) (omega arith) in
-          ⊎-elim
-          (λ q. rw q (abs-as (first-range rounded-down-errs (ratioAt r p) less r1 r2 size (a .join)) (sym (sends .first)) (omega arith)))
-          (λ q. rw q (abs-as (second-range rounded-down-errs (ratioAt r p) less r1 r2 size (a .join)) (sym (sends .second)) (omega arith)))
-          (children-of a c child)
-
-      -- an adaptor at place k or higher has had its wave
-      pub quiet : (d j : ℕ) → isAdaptor (partAt r j) ≡ true → k ≤ adaptorRank r j → j < r .count → r .count ≤ j + d → Abs (storedAt ds j) (limit j)
-      quiet zero j e h l far = absurd (let none : ⊥ = omega arith in none)
-      quiet (suc d) j e h l far = by (ℕ-discrete j (r .count - 1)) (quiet d)
-        where
-          by : Dec (j ≡ r .count - 1)
-              → ((i : ℕ) → isAdaptor (partAt r i) ≡ true → k ≤ adaptorRank r i → i < r .count → r .count ≤ i + d → Abs (storedAt ds i) (limit i))
-              → Abs (storedAt ds j) (limit j)
-          by (yes q) higher = abs-as small (sym (ap (storedAt ds) q ∙ falling .above)) (omega arith)
-          by (no q) higher =
-              let u = lined .accepted .used j (omega arith) in
-              let inside : u .0 < r .count = u .1 .inside in
-              let parent = parent-of (partAt r (u .0)) j (u .1 .child) in
-              let up : j < u .0 = child-lower (u .0) (partAt r (u .0)) j (lined .accepted .lower (u .0)) (u .1 .child) in
-              let rank : adaptorRank r j < adaptorRank r (u .0) = rank-rises (λ i. isAdaptor (partAt r i)) j (u .0) up e in
-              let last : adaptorRank r (u .0) < n = has-place (lined .lists) (u .0) inside (ap isAdaptor (parent .1)) in
-              abs-as (below (u .0) (parent .0) inside (parent .1) (omega arith)
-              (higher (u .0) (ap isAdaptor (parent .1)) (omega arith) inside (omega arith)) j (parent .2)) refl (omega arith)
-
-    module _ (sent : (p : ℕ) (a : Joint) → p < r .count → partAt r p ≡ Adaptor a
-        → storedAt ups p ≡ sendsUp rounded (a .join) (ratioAt r p) (storedAt ups (a .first)) (storedAt ups (a .second))) where
-      fits : (k : ℕ) (s : Stage r words rows k) (ds : List ℤ) → Falling top (suc k) ds → Lowers (linkAt words (getD rows k 0)) (getD rows k 0) ups ds
-      fits k s ds falling =
-          let short = lined .accepted .short in
-          let inside = s .inside in
-          let lower = children-lower r (lined .accepted) (s .row) (s .joint) (s .part) in
-          let few = children-few r (lined .accepted) (s .row) (s .joint) (s .inside) (s .part) in
-          let place = s .place in
-          let size = adaptors-most r (lined .accepted) (lined .lists) in
-          rw (s .listed, s .link)
-          (record {
-            here = omega arith;
-            first = omega arith;
-            second = omega arith;
-            waves = record {
-              below = record {
-                ratio = lined .accepted .ratio (s .row);
-                first = abs-as (risen (s .joint .first) (omega arith)) refl (omega arith);
-                second = abs-as (risen (s .joint .second) (omega arith)) refl (omega arith);
-              };
-              sent = sent (s .row) (s .joint) (s .inside) (s .part);
-              above = abs-as (quiet k ds falling (r .count) (s .row) (ap isAdaptor (s .part)) (omega arith) (s .inside) (omega arith)) refl (omega arith);
-            };
-          })
-
-      -- ---- all of the sweep
-
-      pub drops : (k : ℕ) → k ≤ n → (ds : List ℤ) → Falling top k ds → Drops words rows ups k ds
-      unfolding Drops
-      drops zero l ds falling = tt
-      drops (suc k) l ds falling =
-          let s = stage-at lined k l in
-          (fits k s ds falling, drops k (omega arith) _ (next top k s ds falling))
-
-      pub fallen : (k : ℕ) → k ≤ n → (ds : List ℤ) → Falling top k ds → Falling top 0 (dropped words rows ups k ds)
-      unfolding dropped
-      fallen zero l ds falling = falling
-      fallen (suc k) l ds falling = fallen k (omega arith) _ (next top k (stage-at lined k l) ds falling)

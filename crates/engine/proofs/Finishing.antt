@@ -1,24 +1,20 @@
--- The end of a sample that keeps its limits: what the tap reads is the output, and the reactive rows hold what the definition stores, loaded
--- for the next sample.
-use Prim.Native.Nat.{ℕ, zero, suc, _-_, _<_, _≤_}
-use native.Mathlib.Decide.{ℕ-discrete}
+-- The end of a sample: a leaf's wave over its limit is the definition's 15, and else what the tap reads is the output and what the leaves keep is
+-- stored, loaded for the next sample.
+use Prim.Native.Nat.{ℕ, _-_, _<_, _≤_}
 use native.Mathlib.Omega.{arith}
 use mathlib.Core.Path.{_≡_, refl, sym, ap, ap₂, _∙_, subst}
-use mathlib.Core.Bool.{true, false, true≢false}
-use mathlib.Core.Logic.{⊎-elim}
+use mathlib.Core.Bool.{Bool, true, false, true≢false, not, _||_}
+use mathlib.Core.Logic.{inl, inr}
 use mathlib.Core.List.{List}
-use lib.ListN.{getD, length, set, length-set}
-use lib.Seq.{getD-set-same, getD-set-other}
 use lib.IntN.{ℤ, pos, _+ℤ_}
-use borrow.Author.Tests.{eq-eqb, ne-eqb}
 use lib.Ieee.Bits.{is-true}
+use borrow.Author.Tests.{eq-eqb, ne-eqb, not-true, not-false}
 use Rattle.whole.specs.Order.{Abs}
-use Rattle.circuit.specs.Counting.{within, table}
+use Rattle.circuit.specs.Counting.{within, some, table}
 use Rattle.circuit.specs.Record.{partAt, isLeaf, isInput, top, rowLimit}
-use Rattle.circuit.specs.SetUp.{ratioAt}
 use Rattle.circuit.specs.Curve.{waveLimit, reflected}
-use Rattle.circuit.specs.Sample.{rounded, sends, stores, partStores, partSends, sent, risen, arriving, kept, output, sampled, finished, storedAt}
-use Rattle.circuit.specs.Run.{isReactive}
+use Rattle.circuit.specs.Sample.{rounded, sends, stores, partStores, partSends, sent, arriving, kept, output, inLimit, sampled, refused, finished, storedAt}
+use Rattle.circuit.specs.declared.Doubled.{Doubled}
 use Rattle.circuit.specs.declared.Element.{Element}
 use Rattle.circuit.specs.declared.Element.the-variants.{Resistor, Capacitor, Inductor, Input, Steady}
 use Rattle.circuit.specs.declared.Part.{Part}
@@ -27,170 +23,163 @@ use Rattle.circuit.specs.declared.Record.{Record}
 use Rattle.laws.specs.Accepted.{Accepted}
 use Rattle.laws.proofs.Counting as Counting
 use Rattle.laws.proofs.Playing.{stored-sound}
-use Rattle.engine.specs.Plan.{isReactivePart, Says, Ranked, rank}
-use Rattle.engine.specs.Sample.{tapRow, turnedBy, restored, Restores, Loaded}
+use Rattle.engine.specs.Plan.{floor, roleOf, slotOf, reactives, Slotted, turnOf, Plan}
+use Rattle.engine.specs.Sample.{overAt, leafOver, Turn, turnedBy, Restored, Restores, Works}
+use Rattle.engine.specs.declared.sample.Outcome.the-variants.{Over, Finished}
 use Rattle.engine.proofs.Limits.{within-abs}
-use Rattle.engine.proofs.Ranks.{Place, place, has-place, size-most, same-row}
-use Rattle.engine.proofs.Stages.{leaf-or-adaptor}
-use Rattle.engine.proofs.Sending.{leaf-inside}
+use Rattle.engine.proofs.Sampling.{leaf-of, LeafSlot, leaf-inside, leaf-slot, slot-low, slot-leaf, Landed}
 
--- what the sweeps leave of a sample that is in its limits
-pub record Swept (r : Record) (ws : List ℤ) (x : ℤ) (above below : List ℤ) : Type 0 where
-  pub accepted : Accepted r
-  pub long : length above ≡ rowLimit
-  pub sends : (j : ℕ) → isLeaf (partAt r j) ≡ true → storedAt above j ≡ sent rounded r (storedAt ws) x j
-  pub quiet : (j : ℕ) → Abs (sent rounded r (storedAt ws) x j) waveLimit
-  pub arrives : (j : ℕ) → isLeaf (partAt r j) ≡ true → storedAt below j ≡ arriving rounded (reflected r) r (storedAt ws) x j
-  pub calm : (j : ℕ) → isLeaf (partAt r j) ≡ true → within waveLimit (arriving rounded (reflected r) r (storedAt ws) x j) ≡ true
-  pub rises : storedAt above (r .count - 1) ≡ risen rounded r (storedAt ws) x
-  pub returns : storedAt below (r .count - 1) ≡ reflected r (risen rounded r (storedAt ws) x)
-  pub calm-top : Abs (risen rounded r (storedAt ws) x) waveLimit
-  pub calm-back : Abs (reflected r (risen rounded r (storedAt ws) x)) waveLimit
+-- ---- a test of all leaves' slots
 
-reactive-leaf : (p : Part) → isReactivePart p ≡ true → isLeaf p ≡ true
-reactive-leaf Blank e = e
-reactive-leaf (Leaf y) e = refl
-reactive-leaf (Adaptor a) e = e
+module _ (n : ℕ) (ds : List ℤ) where
+  found-over : leafOver n ds ≡ true → (s : ℕ) × LeafSlot n s × (overAt ds s ≡ true)
+  found-over = by (some (overAt ds) n) refl
+    where
+      by : (b : Bool) → some (overAt ds) n ≡ b → (b || overAt ds floor) ≡ true → (s : ℕ) × LeafSlot n s × (overAt ds s ≡ true)
+      by true e h = let f = Counting.true-some (overAt ds) n e in (f .0, inl (f .1), f .2)
+      by false e h = (floor, inr refl, h)
 
--- ---- the tap's row
+  none-over : leafOver n ds ≡ false → (s : ℕ) → LeafSlot n s → within waveLimit (storedAt ds s) ≡ true
+  none-over = by (some (overAt ds) n) refl
+    where
+      by : (b : Bool) → some (overAt ds) n ≡ b → (b || overAt ds floor) ≡ false → (s : ℕ) → LeafSlot n s → within waveLimit (storedAt ds s) ≡ true
+      by true e h s l = absurd (true≢false h)
+      by false e h s (inl l) = not-false _ (Counting.some-false (overAt ds) n e s l)
+      by false e h s (inr q) = rw q (not-false _ h)
 
-module _ (r : Record) (acc : Accepted r) where
-  -- a leaf is no row 255: those past the count are blank
-  tap-leaf : isLeaf (partAt r (r .tap)) ≡ true → r .tap ≡ top → ⊥
-  tap-leaf e q =
+turns : (p : Part) → Turn (turnOf p)
+turns Blank = inl refl
+turns (Leaf (Resistor v)) = inl refl
+turns (Leaf (Capacitor v)) = inl refl
+turns (Leaf (Inductor v)) = inr refl
+turns (Leaf (Input v)) = inl refl
+turns (Leaf (Steady v m)) = inl refl
+turns (Adaptor a) = inl refl
+
+-- the two waves of a port, and what a tap reads there
+pub record Port (above below : List ℤ) (s : ℕ) (out : ℤ) : Type 0 where
+  pub inside : s < rowLimit
+  pub sent : Abs (storedAt above s) waveLimit
+  pub arrived : Abs (storedAt below s) waveLimit
+  pub reads : storedAt above s +ℤ storedAt below s ≡ out
+
+module _ {p : Plan} {r : Record} {ws : List ℤ} {x : ℤ} {above below : List ℤ} (h : Landed p r ws x above below) where
+  abbrev acc : Accepted r
+  acc = h .fixed .accepted
+
+  abbrev at : Slotted r
+  at = h .fixed .slotted
+
+  abbrev n : ℕ
+  n = p .shape .adaptors
+
+  abbrev arrivesAt : ℕ → ℤ
+  arrivesAt = arriving rounded (reflected r) r (storedAt ws) x
+
+  abbrev keepsLimit : ℕ → Bool
+  keepsLimit j = not (isLeaf (partAt r j)) || within waveLimit (arrivesAt j)
+
+  -- ---- rule 15
+
+  refuses-leaf : leafOver n below ≡ true → sampled r ws x ≡ refused 15
+  unfolding sampled inLimit
+  refuses-leaf e =
+      let f = found-over n below e in
+      let j = slot-leaf (h .fixed) (f .0) (f .1) in
       let short = acc .short in
-      true≢false (sym e ∙ ap isLeaf (acc .blank (r .tap) (omega arith)))
+      let breaks : keepsLimit (j .0) ≡ false = rw (j .2, ← h .arrives (j .0) (j .2), j .3) (not-true _ (f .2)) in
+      rw (h .source, h .calm, Counting.every-false keepsLimit rowLimit (j .0) (omega (arith, j .1)) breaks)
 
-  pub tap-inside : tapRow r < rowLimit
-  tap-inside =
-      let short = acc .short in
-      let some = acc .some in
-      ⊎-elim
-      (λ q. rw (eq-eqb (r .tap) top q) (omega arith))
-      (λ h. let e = is-true _ h in let inside = leaf-inside r acc (r .tap) e in rw (ne-eqb (r .tap) top (tap-leaf e)) (omega arith))
-      (acc .tapped)
+  module _ (calm : leafOver n below ≡ false) where
+    calm-leaf : (j : ℕ) → isLeaf (partAt r j) ≡ true → within waveLimit (arrivesAt j) ≡ true
+    calm-leaf j e = rw (← h .arrives j e) (none-over n below calm (slotOf r j) (leaf-slot (h .fixed) j e))
 
-module _ (r : Record) (ws : List ℤ) (x : ℤ) (above below : List ℤ) (s : Swept r ws x above below) where
-  -- ---- what the tap reads
+    keeps : (j : ℕ) (b : Bool) → isLeaf (partAt r j) ≡ b → (not b || within waveLimit (arrivesAt j)) ≡ true
+    keeps j false e = refl
+    keeps j true e = calm-leaf j e
 
-  pub reads : storedAt above (tapRow r) +ℤ storedAt below (tapRow r) ≡ output rounded (reflected r) r (storedAt ws) x
-  unfolding output
-  reads = ⊎-elim
-      (λ q. rw (eq-eqb (r .tap) top q) (ap₂ _+ℤ_ (s .rises) (s .returns)))
-      (λ h. let e = is-true _ h in rw (ne-eqb (r .tap) top (tap-leaf r (s .accepted) e)) (ap₂ _+ℤ_ (s .sends (r .tap) e) (s .arrives (r .tap) e)))
-      (s .accepted .tapped)
-
-  pub sent-range : Abs (storedAt above (tapRow r)) waveLimit
-  sent-range = ⊎-elim
-      (λ q. rw (eq-eqb (r .tap) top q, s .rises) (s .calm-top))
-      (λ h. let e = is-true _ h in rw (ne-eqb (r .tap) top (tap-leaf r (s .accepted) e), s .sends (r .tap) e) (s .quiet (r .tap)))
-      (s .accepted .tapped)
-
-  pub arrived-range : Abs (storedAt below (tapRow r)) waveLimit
-  arrived-range = ⊎-elim
-      (λ q. rw (eq-eqb (r .tap) top q, s .returns) (s .calm-back))
-      (λ h. let e = is-true _ h in rw (ne-eqb (r .tap) top (tap-leaf r (s .accepted) e), s .arrives (r .tap) e) (within-abs waveLimit _ (s .calm (r .tap) e)))
-      (s .accepted .tapped)
-
-  -- ---- what is stored
-
-  module _ (words reactive : List ℕ) (q : ℕ) (says : (j : ℕ) → j < rowLimit → Says (partAt r j) (ratioAt r j) (getD words j 0))
-      (lists : Ranked (λ j. isReactivePart (partAt r j)) (r .count) reactive q) where
-    pub restores : Restores words reactive q below
-    restores =
-        let short = s .accepted .short in
-        record {
-          few = omega (arith, size-most lists);
-          row = λ k l. let w = place lists k l in rw (w .listed) (omega (arith, w .inside));
-          wave = λ k l.
-              let w = place lists k l in
-              let e = reactive-leaf (partAt r (w .row)) (w .chosen) in
-              rw (w .listed, s .arrives (w .row) e) (within-abs waveLimit _ (s .calm (w .row) e));
-        }
-
-    abbrev after : ℕ → List ℤ
-    after k = restored words reactive below k above
-
-    after-long : (k : ℕ) → length (after k) ≡ rowLimit
-    unfolding restored
-    after-long zero = s .long
-    after-long (suc k) = simp length-set (after-long k)
-
-    -- a reactive row once its place is passed
-    stored-at : (k j : ℕ) → k ≤ q → j < r .count → isReactivePart (partAt r j) ≡ true → rank (λ i. isReactivePart (partAt r i)) j < k
-        → storedAt (after k) j ≡ turnedBy (getD words j 0) (storedAt below j)
-    unfolding restored
-    stored-at zero j l inside e h = absurd (let none : ⊥ = omega arith in none)
-    stored-at (suc k) j l inside e h = by (ℕ-discrete j (getD reactive k 0)) (stored-at k j (omega arith) inside e)
-      where
-        w : Place (λ i. isReactivePart (partAt r i)) (r .count) reactive k
-        w = place lists k l
-
-        room : getD reactive k 0 < length (after k)
-        room = let short = s .accepted .short in rw (w .listed) (omega (arith, w .inside, after-long k))
-
-        by : Dec (j ≡ getD reactive k 0)
-            → (rank (λ i. isReactivePart (partAt r i)) j < k → storedAt (after k) j ≡ turnedBy (getD words j 0) (storedAt below j))
-            → storedAt (set (after k) (getD reactive k 0) (turnedBy (getD words (getD reactive k 0) 0) (storedAt below (getD reactive k 0)))) j
-            ≡ turnedBy (getD words j 0) (storedAt below j)
-        by (yes same) earlier = rw same (getD-set-same (after k) (getD reactive k 0) _ (pos 0) room)
-        by (no other) earlier =
-            let elsewhere : rank (λ i. isReactivePart (partAt r i)) j ≡ k → ⊥ =
-            λ p. other (same-row lists j (w .row) inside (w .inside) e (w .chosen) (p ∙ sym (w .rank)) ∙ sym (w .listed)) in
-            getD-set-other (after k) (getD reactive k 0) j _ (pos 0) other ∙ earlier (omega arith)
-
-    -- any other row
-    kept-at : (k j : ℕ) → k ≤ q → isReactivePart (partAt r j) ≡ false → storedAt (after k) j ≡ storedAt above j
-    unfolding restored
-    kept-at zero j l e = refl
-    kept-at (suc k) j l e =
-        let w = place lists k l in
-        getD-set-other (after k) (getD reactive k 0) j _ (pos 0)
-        (λ p. true≢false (sym (w .chosen) ∙ ap (λ i. isReactivePart (partAt r i)) (sym (w .listed) ∙ sym p) ∙ e))
-        ∙ kept-at k j (omega arith) e
-
-    -- ---- loaded for the next sample
-
-    abbrev pub next : List ℤ
+    abbrev next : List ℤ
     next = table (kept rounded (reflected r) r (storedAt ws) x) rowLimit
 
-    next-at : (j : ℕ) → j < rowLimit → storedAt next j ≡ partStores rounded (partAt r j) (arriving rounded (reflected r) r (storedAt ws) x j)
-    unfolding kept
-    next-at j l = Counting.getD-table (kept rounded (reflected r) r (storedAt ws) x) rowLimit j (pos 0) l
+    finishes : sampled r ws x ≡ finished (output rounded (reflected r) r (storedAt ws) x) next
+    unfolding sampled inLimit
+    finishes = rw (h .source, h .calm, Counting.true-every keepsLimit rowLimit (λ j l. keeps j (isLeaf (partAt r j)) refl))
 
-    module _ (j : ℕ) (inside : j < r .count) where
-      in-rows : j < rowLimit
-      in-rows = let short = s .accepted .short in omega arith
+    -- ---- what the tap reads
 
-      reactive-next : (y : Element) → partAt r j ≡ Leaf y → isReactive y ≡ true → storedAt (after q) j ≡ turnedBy (getD words j 0) (arriving rounded (reflected r) r (storedAt ws) x j)
-      reactive-next y e f =
-          let chosen = ap isReactivePart e ∙ f in
-          stored-at q j (omega arith) inside chosen (has-place lists j inside chosen) ∙ ap (turnedBy (getD words j 0)) (s .arrives j (ap isLeaf e))
+    pub tapped : Port above below (p .shape .tap) (output rounded (reflected r) r (storedAt ws) x)
+    unfolding output
+    tapped = elim (acc .tapped) [
+      | inl q ↦ rw (h .fixed .tap, eq-eqb (r .tap) top q, at .last) (record {
+        inside = omega (arith, at .few);
+        sent = rw (h .rises) (within-abs waveLimit _ (h .calm));
+        arrived = h .answer;
+        reads = ap₂ _+ℤ_ (h .rises) (h .returns);
+      })
+      | inr t ↦
+          let e = is-true _ t in
+          let short = acc .short in
+          let inside = leaf-inside (h .fixed) (r .tap) e in
+          let apart : r .tap ≡ top → ⊥ = λ q. omega arith in
+          rw (h .fixed .tap, ne-eqb (r .tap) top apart) (record {
+            inside = omega (arith, slot-low (h .fixed) (leaf-slot (h .fixed) (r .tap) e));
+            sent = rw (h .sends (r .tap) e) (h .quiet (r .tap));
+            arrived = rw (h .arrives (r .tap) e) (within-abs waveLimit _ (calm-leaf (r .tap) e));
+            reads = ap₂ _+ℤ_ (h .sends (r .tap) e) (h .arrives (r .tap) e);
+          })
+    ]
 
-      still-next : (y : Element) → partAt r j ≡ Leaf y → isReactive y ≡ false → storedAt (after q) j ≡ partSends rounded x (storedAt ws j) (Leaf y)
-      unfolding sent
-      still-next y e f =
-          kept-at q j (omega arith) (ap isReactivePart e ∙ f) ∙ s .sends j (ap isLeaf e) ∙ ap (partSends rounded x (storedAt ws j)) e
+    -- ---- what is stored
 
-      says-of : (p : Part) → partAt r j ≡ p → Says p (ratioAt r j) (getD words j 0)
-      says-of p e = subst (λ (z : Part). Says z (ratioAt r j) (getD words j 0)) e (says j in-rows)
+    pub restores : Restores (p .turns) (p .shape .reactive) above below
+    restores =
+        let fewer = at .fewer in
+        let q = h .fixed .reactive in
+        record {
+          few = omega (arith, at .few);
+          long = h .still .long;
+          turn = λ s l.
+              let there = at .leaf s (omega arith) in
+              subst (λ (i : ℕ). Turn (storedAt (p .turns) i)) (there .1) (rw (h .fixed .turn (at .row s) (there .0)) (turns (partAt r (at .row s))));
+          wave = λ s l. within-abs waveLimit _ (none-over n below calm s (inl (omega (arith, h .fixed .adaptors))));
+        }
 
-      sends-next : (y : Element) → partAt r j ≡ Leaf y → isInput (Leaf y) ≡ false → storedAt (after q) j ≡ partSends rounded (pos 0) (storedAt next j) (Leaf y)
-      unfolding sends stores Says
-      sends-next (Resistor v) e f = still-next (Resistor v) e refl
-      sends-next (Capacitor v) e f = reactive-next (Capacitor v) e refl ∙ rw (says-of (Leaf (Capacitor v)) e, next-at j in-rows, e) refl
-      sends-next (Inductor v) e f = reactive-next (Inductor v) e refl ∙ rw (says-of (Leaf (Inductor v)) e, next-at j in-rows, e) refl
+    module _ {after : List ℤ} (k : Restored (p .turns) below (p .shape .reactive) above after) (j : ℕ) (l : j < r .count) where
+      next-at : storedAt next j ≡ partStores rounded (partAt r j) (arrivesAt j)
+      unfolding kept
+      next-at = let short = acc .short in Counting.getD-table (kept rounded (reflected r) r (storedAt ws) x) rowLimit j (pos 0) (omega arith)
+
+      moves : slotOf r j < reactives r → isLeaf (partAt r j) ≡ true → storedAt after (slotOf r j) ≡ turnedBy (turnOf (partAt r j)) (arrivesAt j)
+      moves low e = k .kept (slotOf r j) (rw (h .fixed .reactive) low) ∙ ap₂ turnedBy (h .fixed .turn j l) (h .arrives j e)
+
+      stays : reactives r ≤ slotOf r j → isLeaf (partAt r j) ≡ true → storedAt after (slotOf r j) ≡ sent rounded r (storedAt ws) x j
+      stays high e = k .rest (slotOf r j) (rw (h .fixed .reactive) high) ∙ h .sends j e
+
+      sends-next : (y : Element) → partAt r j ≡ Leaf y → isInput (Leaf y) ≡ false → storedAt after (slotOf r j) ≡ partSends rounded (pos 0) (storedAt next j) (Leaf y)
+      unfolding sent sends stores roleOf
+      sends-next (Resistor v) e f = stays (at .other j l (ap roleOf e) .0) (ap isLeaf e) ∙ rw e
+      sends-next (Capacitor v) e f = moves (at .reactive j l (ap roleOf e)) (ap isLeaf e) ∙ rw (next-at, e)
+      sends-next (Inductor v) e f = moves (at .reactive j l (ap roleOf e)) (ap isLeaf e) ∙ rw (next-at, e)
       sends-next (Input v) e f = absurd (true≢false f)
-      sends-next (Steady v m) e f = still-next (Steady v m) e refl
+      sends-next (Steady v m) e f = stays (at .other j l (ap roleOf e) .0) (ap isLeaf e) ∙ rw e
 
-    pub loaded-next : (v : ℤ) → sampled r ws x ≡ finished v next → Loaded r next (after q)
-    unfolding sent
-    loaded-next v done = record {
-      size = Counting.length-table (kept rounded (reflected r) r (storedAt ws) x) rowLimit;
-      long = after-long q;
-      sound = stored-sound r ws x v next done;
-      leaves = λ j l e f. ⊎-elim
-          (λ y. sends-next j l (y .0) (y .1) (sym (ap isInput (y .1)) ∙ f) ∙ sym (ap (partSends rounded (pos 0) (storedAt next j)) (y .1)))
-          (λ y. absurd (true≢false (sym e ∙ ap isLeaf (y .1))))
-          (leaf-or-adaptor (partAt r j) (s .accepted .present j l));
-    }
+    -- ---- the end
+
+    pub works : {v : Doubled} {after : List ℤ} → v .0 ≡ storedAt above (p .shape .tap) +ℤ storedAt below (p .shape .tap)
+        → Restored (p .turns) below (p .shape .reactive) above after → Works r ws x (Finished v) after
+    unfolding Works sent
+    works {v} {after} e k = (
+      next,
+      finishes ∙ ap (λ z. finished z next) (sym (e ∙ tapped .reads)),
+      record {
+        size = Counting.length-table (kept rounded (reflected r) r (storedAt ws) x) rowLimit;
+        long = k .long ∙ h .still .long;
+        sound = stored-sound r ws x _ next finishes;
+        leaves = λ j l isleaf f. let y = leaf-of (partAt r j) isleaf in
+            sends-next k j l (y .0) (y .1) (sym (ap isInput (y .1)) ∙ f) ∙ sym (ap (partSends rounded (pos 0) (storedAt next j)) (y .1));
+      },
+    )
+
+  pub over-works : leafOver n below ≡ true → Works r ws x Over above
+  unfolding Works
+  over-works e = (refuses-leaf e, h .still)

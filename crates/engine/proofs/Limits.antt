@@ -3,7 +3,7 @@ use Prim.Native.Nat.{ℕ, _*_, _^_, _<_}
 use native.Mathlib.Omega.{arith}
 use mathlib.Core.Path.{_≡_, ap₂, _∙_}
 use mathlib.Core.Bool.{true}
-use borrow.Author.Tests.{leb-true}
+use borrow.Author.Tests.{leb-true, le-leb}
 use lib.IntN.{ℤ, pos, natAbs, negℤ, _+ℤ_, _-ℤ_, +ℤ-idl}
 use lib.Signed.{mag}
 use mir.Syntax.{w32, w64}
@@ -17,6 +17,9 @@ use Rattle.circuit.specs.Curve.{waveLimit}
 
 pub within-abs : (m : ℕ) (z : ℤ) → within m z ≡ true → Abs z m
 within-abs m z e = record { bound = leb-true (natAbs z) m e }
+
+pub abs-within : (m : ℕ) (z : ℤ) → Abs z m → within m z ≡ true
+abs-within m z h = le-leb (natAbs z) m (h .bound)
 
 pub abs-fits : {z : ℤ} {e : ℕ} → Abs z e → e < 2 ^ 63 → SFits w64 z
 abs-fits {z} h l = fits-abs z (omega (arith, h .bound))

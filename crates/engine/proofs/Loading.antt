@@ -1,37 +1,37 @@
 -- The ends of a run: what is laid out and loaded before its first sample, and the stored waves that are taken out after its last.
-use Prim.Native.Nat.{ℕ, _<_, _≤_}
+use Prim.Native.Nat.{ℕ, zero, suc, _<_, _≤_}
+use native.Mathlib.Decide.{decLt}
 use native.Mathlib.Omega.{arith}
-use mathlib.Core.Path.{_≡_, refl, sym, ap, _∙_}
+use mathlib.Core.Path.{_≡_, refl, sym, _∙_}
 use mathlib.Core.Bool.{true, false}
 use mathlib.Core.List.{List}
 use lib.Dec.{eqb}
-use lib.ListN.{length, take, length-take}
+use lib.ListN.{length, getD, replicate}
 use lib.Seq.{ext-getD}
 use lib.IntN.{ℤ, pos, natAbs}
 use borrow.Author.Tests.{eqb-true, not-false}
 use Rattle.whole.specs.Order.{zarith, Abs, abs-parts}
-use Rattle.circuit.specs.Record.{partAt, isLeaf, isInput, rowLimit}
+use Rattle.circuit.specs.Record.{rowIn, partAt, isLeaf, isInput, rowLimit}
 use Rattle.circuit.specs.Curve.{waveLimit}
-use Rattle.circuit.specs.Numbers.{done, judge}
-use Rattle.circuit.specs.SetUp.{preparedPart, preparedRows, ratioAt, setUpReport, setUpRows}
+use Rattle.circuit.specs.Numbers.{done, judge, passes}
+use Rattle.circuit.specs.SetUp.{preparedRows, setUpReport, setUpRows}
 use Rattle.circuit.specs.Sample.{rounded, sends, partSends, sent, storedAt}
 use Rattle.circuit.specs.Run.{freshWaves, soundWave, storedWavesRule, Charged, chargedRules}
-use Rattle.circuit.specs.declared.Element.{Element}
 use Rattle.circuit.specs.declared.Element.the-variants.{Resistor, Capacitor, Inductor, Input, Steady}
 use Rattle.circuit.specs.declared.Part.{Part}
 use Rattle.circuit.specs.declared.Part.the-variants.{Blank, Leaf, Adaptor}
 use Rattle.circuit.specs.declared.Prepared.{Prepared}
+use Rattle.circuit.specs.declared.Row.{Row}
 use Rattle.circuit.specs.declared.Record.{Record}
-use Rattle.laws.specs.Accepted.{Sized, Accepted}
+use Rattle.laws.specs.Accepted.{Sized}
 use Rattle.laws.proofs.Counting as Counting
-use Rattle.laws.proofs.Accepting.{accepting}
 use Rattle.laws.proofs.Charging.{Cleared, zero-cleared}
-use Rattle.engine.specs.declared.plan.Plan.{Plan}
-use Rattle.engine.specs.Plan.{Says, partTaken, ratioIn}
-use Rattle.engine.specs.Sample.{Ready, Plans, Loaded, LaidOut}
+use Rattle.engine.specs.Plan.{partTaken, Seated}
+use Rattle.engine.specs.Sweep.{Modest}
+use Rattle.engine.specs.Sample.{Loaded}
 use Rattle.engine.specs.Play.{Playable}
 use Rattle.engine.proofs.Limits.{within-abs}
-use Rattle.engine.proofs.Sending.{leaf-inside}
+use Rattle.engine.proofs.Placing.{Placed, placed-all}
 
 -- ---- before
 
@@ -41,111 +41,74 @@ unfolding setUpRows
 kept-rows r e = rw e
 
 -- a circuit with its waves that 4 to 12 do not refuse
-pub playable : (k : Charged) (rows : List Prepared) → Sized (k .circuit) → length (k .waves) ≡ rowLimit → rows ≡ setUpRows (k .circuit)
-    → judge chargedRules k .number ≡ 0 → Playable (k .circuit) rows (k .waves)
-playable k rows sized stored e z =
+pub playable : (k : Charged) (rows : List Prepared) → Sized (k .circuit) → rows ≡ setUpRows (k .circuit) → judge chargedRules k .number ≡ 0
+    → Playable (k .circuit) rows (k .waves)
+playable k rows sized e z =
     let h = zero-cleared k z in
-    record { ready = record { sized = sized; setUp = h .setUp; prepared = e ∙ kept-rows (k .circuit) (h .setUp) }; stored = stored; waves = h .waves }
+    record { ready = record { sized = sized; setUp = h .setUp; prepared = e ∙ kept-rows (k .circuit) (h .setUp) }; waves = h .waves }
 
-module _ {r : Record} {rows : List Prepared} (p : Ready r rows) where
-  pub accepted : Accepted r
-  accepted = accepting r (p .sized) (p .setUp)
+pub cleared : {r : Record} {rows : List Prepared} {ws : List ℤ} → Playable r rows ws → Cleared (record { circuit = r; waves = ws })
+cleared p = record { setUp = p .ready .setUp; waves = p .waves }
 
-  -- the prepared ratio is the definition's
-  prepared-ratio : (j : ℕ) → j < rowLimit → ratioIn rows j ≡ preparedPart r j (partAt r j) .ratio
-  unfolding preparedRows
-  prepared-ratio j l = rw (p .prepared) (ap (λ (x : Prepared). x .ratio) (Counting.getD-table (λ k. preparedPart r k (partAt r k)) rowLimit j _ l))
+pub zeros-at : (n j : ℕ) → storedAt (replicate n (pos 0)) j ≡ pos 0
+zeros-at zero j = refl
+zeros-at (suc n) zero = refl
+zeros-at (suc n) (suc j) = zeros-at n j
 
-  -- a word says of a part what it says with the definition's ratio
-  pub says : (j w : ℕ) → j < rowLimit → Says (partAt r j) (ratioIn rows j) w → Says (partAt r j) (ratioAt r j) w
-  unfolding Says
-  says j w l = by (partAt r j) refl
-    where
-      by : (q : Part) → partAt r j ≡ q → Says q (ratioIn rows j) w → Says q (ratioAt r j) w
-      by Blank e h = h
-      by (Leaf (Resistor v)) e h = h
-      by (Leaf (Capacitor v)) e h = h
-      by (Leaf (Inductor v)) e h = h
-      by (Leaf (Input v)) e h = h
-      by (Leaf (Steady v m)) e h = h
-      by (Adaptor a) e h = rw (prepared-ratio j l ∙ ap (λ (q : Part). preparedPart r j q .ratio) e) at h
+-- no wave has come down yet
+pub fresh-modest : Modest freshWaves
+unfolding freshWaves
+fresh-modest = record { long = refl; small = λ s. rw (zeros-at rowLimit s) (omega zarith) }
 
-module _ {r : Record} {rows : List Prepared} {ws : List ℤ} (p : Playable r rows ws) where
-  pub cleared : Cleared (record { circuit = r; waves = ws })
-  cleared = record { setUp = p .ready .setUp; waves = p .waves }
+-- ---- stored waves in slots
 
-  sound : (j : ℕ) → j < rowLimit → soundWave (partAt r j) (storedAt ws j) ≡ true
-  unfolding storedWavesRule
-  sound j l = not-false _ (Counting.lowest-passes _ rowLimit (p .waves) j l)
+nought : (z : ℤ) → eqb (natAbs z) 0 ≡ true → (pos 0 ≡ z) × Abs z waveLimit
+nought z e = let n = eqb-true (natAbs z) 0 e in (omega (zarith, abs-parts z), record { bound = omega arith })
 
-  pub loaded : (ups : List ℤ) → (length ups ≡ rowLimit) × ((j : ℕ) → j < rowLimit → storedAt ups j ≡ partSends rounded (pos 0) (storedAt ws j) (partAt r j)) → Loaded r ws ups
-  unfolding sent
-  loaded ups h =
-      let short = accepted (p .ready) .short in
-      record {
-        size = p .stored;
-        long = h .0;
-        sound = sound;
-        leaves = λ j l e f. h .1 j (omega arith);
-      }
+-- a sound wave z is taken out of the wave w that is sent from it
+sound-taken : (q : Part) (z w : ℤ) → soundWave q z ≡ true → (isLeaf q ≡ true → isInput q ≡ false → w ≡ partSends rounded (pos 0) z q)
+    → (partTaken q w ≡ z) × Abs z waveLimit
+unfolding sends
+sound-taken Blank z w h sent = nought z h
+sound-taken (Leaf (Resistor v)) z w h sent = nought z h
+sound-taken (Leaf (Capacitor v)) z w h sent = (sent refl refl, within-abs waveLimit z h)
+sound-taken (Leaf (Inductor v)) z w h sent = (sent refl refl, within-abs waveLimit z h)
+sound-taken (Leaf (Input v)) z w h sent = nought z h
+sound-taken (Leaf (Steady v m)) z w h sent = nought z h
+sound-taken (Adaptor a) z w h sent = nought z h
 
--- ---- over a plan
+-- what `unload` takes out for row j
+abbrev pub outOf : List Row → List ℕ → List ℤ → ℕ → ℤ
+outOf rows slots ups j = partTaken (rowIn rows j .part) (storedAt ups (getD slots j 0))
 
-module _ {p : Plan} {r : Record} (h : Plans p r) where
-  pub columns-inside : (p .width ≤ length (p .xs)) × (p .width ≤ length (p .ys))
-  columns-inside =
-      let xs = rw length-take at (h .fixed .plotted .edges .size) in
-      let ys = rw length-take at (h .fixed .plotted .size) in
-      omega (arith, h .width)
+module _ {rows : List Row} {count : ℕ} {slots : List ℕ} {r : Record} (h : Seated rows count slots r) where
+  -- rows in their slots, as `load` fills them
+  pub loaded : {ws ups : List ℤ} → length ws ≡ rowLimit → storedWavesRule r ws ≡ passes
+      → Placed (pos 0) slots (λ j. partSends rounded (pos 0) (storedAt ws j) (rowIn rows j .part)) count ups → Loaded r ws ups
+  unfolding sent storedWavesRule
+  loaded {ws} size waves p = record {
+    size = size;
+    long = p .long;
+    sound = λ j l. not-false _ (Counting.lowest-passes _ rowLimit waves j l);
+    leaves = λ j l e f.
+        placed-all (λ k. partSends rounded (pos 0) (storedAt ws k)) p r (h .prepared) (h .all) (h .many) (h .layable) j (rw (h .many) at l);
+  }
 
-  -- what the first sample asks for
-  pub laid-out : {ws ups : List ℤ} → Loaded r ws ups
-      → LaidOut (p .shape) (p .words) (p .adaptors) (p .leaves) (p .reactive) (take (p .width) (p .xs)) (take (p .width) (p .ys)) ups freshWaves
-  unfolding freshWaves
-  laid-out {ws} l = record { circuit = r; stored = ws; fixed = h .fixed; loaded = l; room = refl }
+  module _ {ws ups : List ℤ} (l : Loaded r ws ups) where
+    pub taken : (j : ℕ) → j < count → (outOf rows slots ups j ≡ storedAt ws j) × Abs (storedAt ws j) waveLimit
+    unfolding sent
+    taken j m =
+        let n = rw (← h .many) at m in
+        let short = h .layable .accepted .short in
+        rw (← h .all, h .layable .slot j n) (sound-taken (partAt r j) (storedAt ws j) _ (l .sound j (omega arith)) (l .leaves j n))
 
--- ---- after
-
-zero-is : (z : ℤ) → eqb (natAbs z) 0 ≡ true → z ≡ pos 0
-zero-is z e = let n = eqb-true (natAbs z) 0 e in omega (zarith, abs-parts z)
-
-module _ {r : Record} {ws ups : List ℤ} (acc : Accepted r) (loaded : Loaded r ws ups) where
-  -- a row's stored wave, out of what it sends next
-  taken : (j : ℕ) → j < rowLimit → partTaken (partAt r j) (storedAt ups j) ≡ storedAt ws j
-  unfolding sent sends
-  taken j l = by (partAt r j) refl (loaded .sound j l)
-    where
-      inside : (y : Element) → partAt r j ≡ Leaf y → j < r .count
-      inside y e = leaf-inside r acc j (ap isLeaf e)
-
-      held : (y : Element) → partAt r j ≡ Leaf y → isInput (Leaf y) ≡ false → storedAt ups j ≡ partSends rounded (pos 0) (storedAt ws j) (Leaf y)
-      held y e f = loaded .leaves j (inside y e) (ap isLeaf e) (ap isInput e ∙ f) ∙ ap (partSends rounded (pos 0) (storedAt ws j)) e
-
-      by : (q : Part) → partAt r j ≡ q → soundWave q (storedAt ws j) ≡ true → partTaken q (storedAt ups j) ≡ storedAt ws j
-      by Blank e h = sym (zero-is _ h)
-      by (Leaf (Resistor v)) e h = sym (zero-is _ h)
-      by (Leaf (Capacitor v)) e h = held (Capacitor v) e refl
-      by (Leaf (Inductor v)) e h = held (Inductor v) e refl
-      by (Leaf (Input v)) e h = sym (zero-is _ h)
-      by (Leaf (Steady v m)) e h = sym (zero-is _ h)
-      by (Adaptor a) e h = sym (zero-is _ h)
-
-  none : (z : ℤ) → eqb (natAbs z) 0 ≡ true → Abs z waveLimit
-  none z e = let n = eqb-true (natAbs z) 0 e in record { bound = omega arith }
-
-  pub limited : (j : ℕ) → j < rowLimit → Abs (partTaken (partAt r j) (storedAt ups j)) waveLimit
-  limited j l = rw (taken j l) (by (partAt r j) (loaded .sound j l))
-    where
-      by : (q : Part) → soundWave q (storedAt ws j) ≡ true → Abs (storedAt ws j) waveLimit
-      by Blank h = none _ h
-      by (Leaf (Resistor v)) h = none _ h
-      by (Leaf (Capacitor v)) h = within-abs waveLimit _ h
-      by (Leaf (Inductor v)) h = within-abs waveLimit _ h
-      by (Leaf (Input v)) h = none _ h
-      by (Leaf (Steady v m)) h = none _ h
-      by (Adaptor a) h = none _ h
-
-  pub all-taken : (out : List ℤ) → (length out ≡ rowLimit) × ((j : ℕ) → j < rowLimit → storedAt out j ≡ partTaken (partAt r j) (storedAt ups j)) → out ≡ ws
-  all-taken out h =
-      let size = h .0 in
-      ext-getD (pos 0) out ws (h .0 ∙ sym (loaded .size)) (λ j l. h .1 j (omega arith) ∙ taken j (omega arith))
+    -- the rows after the last have none
+    pub all-taken : {after : List ℤ} → length after ≡ rowLimit → ((j : ℕ) → j < count → storedAt after j ≡ outOf rows slots ups j)
+        → ((j : ℕ) → count ≤ j → storedAt after j ≡ pos 0) → after ≡ ws
+    all-taken {after} size each rest = ext-getD (pos 0) after ws (size ∙ sym (l .size)) (λ j m. by j (omega arith) (decLt j count))
+      where
+        by : (j : ℕ) → j < rowLimit → Dec (j < count) → storedAt after j ≡ storedAt ws j
+        by j m (yes n) = each j n ∙ taken j n .0
+        by j m (no n) =
+            let blank = h .layable .accepted .blank j (omega (arith, h .many)) in
+            rest j (omega arith) ∙ nought (storedAt ws j) (rw blank at (l .sound j m)) .0

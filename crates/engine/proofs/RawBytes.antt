@@ -2,38 +2,30 @@
 use Prim.Native.Nat.{ℕ, zero, suc, _+_, _-_, _*_, _/_, _%_, _^_, _<_, _≤_, min}
 use native.Mathlib.Nat.{pow-suc}
 use native.Mathlib.Omega.{arith}
-use mathlib.Core.Path.{_≡_, refl, sym, ap, _∙_, subst}
+use mathlib.Core.Path.{_≡_, refl, sym, ap, _∙_}
 use mathlib.Core.List.{List, [], _∷_, _++_}
 use lib.ListN.{length, getD, take, drop, set, length-append, length-take}
-use lib.Seq.{getD-append-add, getD-take, drop-cons, sets}
+use lib.Seq.{getD-append-add, getD-take, drop-cons, drop-append-add, sets}
 use lib.IntN.{ℤ, pos, negsuc, _+ℤ_}
 use mir.Syntax.{w32}
 use mir.Val.{ofZ, SFits}
 use Rattle.whole.specs.Integers.{at, _⊞_}
 use Rattle.whole.specs.Order.{zarith}
-use Rattle.circuit.specs.File.{bytes, numberOf, signedBytes}
-use Rattle.circuit.specs.Take.{sampleLength, outputLength, signed, sampleAt, samplesOf, outputBytes}
+use Rattle.circuit.specs.File.{bytes, numberAt}
+use Rattle.circuit.specs.Take.{sampleLength, outputLength, signed, sampleAt, samplesOf}
 use Rattle.laws.proofs.Counting.{getD-table}
-use Rattle.laws.proofs.Bytes.{length-samplesOf, outputBytes-snoc, length-outputBytes}
-use Rattle.engine.specs.Play.{Written}
+use Rattle.laws.proofs.Bytes.{length-samplesOf}
 use Rattle.engine.specs.Raw.{fitting}
-use Rattle.engine.proofs.Looping.{written-more}
 
 -- ---- a sample
 
-abbrev pub sampleIn : ℕ → ℕ → ℕ → ℤ
-sampleIn a b c = signed (numberOf (a ∷ b ∷ c ∷ []) % 2 ^ 24)
-
-three-from : (s : List ℕ) (at : ℕ) → at + 3 ≤ length s → take 3 (drop at s) ≡ getD s at 0 ∷ getD s (at + 1) 0 ∷ getD s (at + 2) 0 ∷ []
+-- the three bytes from a place on
+pub three-from : (s : List ℕ) (at : ℕ) → at + sampleLength ≤ length s
+    → take sampleLength (drop at s) ≡ getD s at 0 ∷ getD s (at + 1) 0 ∷ getD s (at + 2) 0 ∷ []
 three-from s at l =
     let second : at + 1 ≡ suc at = omega arith in
     let third : at + 2 ≡ suc (suc at) = omega arith in
     rw (second, third, drop-cons s at 0 (omega arith), drop-cons s (suc at) 0 (omega arith), drop-cons s (suc (suc at)) 0 (omega arith)) refl
-
--- sample i stands in the three bytes from its place on
-pub sample-from : (s : List ℕ) (i : ℕ) → sampleLength * i + sampleLength ≤ length s
-    → sampleIn (getD s (sampleLength * i) 0) (getD s (sampleLength * i + 1) 0) (getD s (sampleLength * i + 2) 0) ≡ sampleAt i s
-sample-from s i l = ap (λ (b : List ℕ). signed (numberOf b % 2 ^ 24)) (sym (three-from s (sampleLength * i) l))
 
 module _ (s t : List ℕ) where
   -- a byte of the second of two lists
@@ -41,24 +33,21 @@ module _ (s t : List ℕ) where
   byte-after k at e = sym (getD-append-add s t k 0) ∙ ap (λ n. getD (s ++ t) n 0) e
 
   -- and a sample that stands in it
-  pub sample-after : (k i : ℕ) → length s + k ≡ sampleLength * i → k + sampleLength ≤ length t
-      → sampleIn (getD t k 0) (getD t (k + 1) 0) (getD t (k + 2) 0) ≡ sampleAt i (s ++ t)
-  sample-after k i e l =
-      rw (byte-after k (sampleLength * i) e, byte-after (k + 1) (sampleLength * i + 1) (omega arith), byte-after (k + 2) (sampleLength * i + 2) (omega arith))
-      (sample-from (s ++ t) i (rw length-append (omega arith)))
+  pub sample-after : (k i : ℕ) → length s + k ≡ sampleLength * i → signed (numberAt sampleLength k t % 2 ^ 24) ≡ sampleAt i (s ++ t)
+  sample-after k i e = rw (← e, drop-append-add s t k)
 
 -- ---- the samples that are whole and that there is room for
 
-module _ (s room : List ℕ) where
-  pub length-fitting : length (fitting s room) ≡ min (length room / outputLength) (length s / sampleLength)
-  length-fitting = rw (length-take, length-samplesOf) refl
+module _ (s t room : List ℕ) where
+  pub length-fitting : length (fitting (s ++ t) room) ≡ min (length room / outputLength) ((length s + length t) / sampleLength)
+  length-fitting = rw (length-take, length-samplesOf, length-append)
 
-  pub fitting-at : (i : ℕ) → i < length (fitting s room) → getD (fitting s room) i (pos 0) ≡ sampleAt i s
+  pub fitting-at : (i : ℕ) → i < length (fitting (s ++ t) room) → getD (fitting (s ++ t) room) i (pos 0) ≡ sampleAt i (s ++ t)
   unfolding samplesOf
   fitting-at i l =
-      let m = rw length-fitting at l in
-      getD-take (length room / outputLength) (samplesOf s) i (pos 0) (omega arith)
-      ∙ getD-table (λ j. sampleAt j s) (length s / sampleLength) i (pos 0) (omega arith)
+      let m = rw (length-take, length-samplesOf) at l in
+      getD-take (length room / outputLength) (samplesOf (s ++ t)) i (pos 0) (omega arith)
+      ∙ getD-table (λ j. sampleAt j (s ++ t)) (length (s ++ t) / sampleLength) i (pos 0) (omega arith)
 
 -- ---- an output
 
@@ -87,11 +76,3 @@ four-placed s at n =
     let high : n / 65536 ≡ n / 256 / 256 = omega arith in
     let higher : n / 16777216 ≡ n / 256 / 256 / 256 = omega arith in
     rw (second, third, fourth, high, higher) refl
-
--- one output more, after those that stand in front
-pub outputs-more : (before after : List ℕ) (vs : List ℤ) (v : ℤ) (i : ℕ) → length vs ≡ i → outputLength * i + outputLength ≤ length before
-    → Written before after (outputBytes vs) → Written before (sets after (outputLength * i) (signedBytes v)) (outputBytes (vs ++ (v ∷ [])))
-unfolding bytes
-outputs-more before after vs v i count l w =
-    subst (Written before (sets after (outputLength * i) (signedBytes v))) (sym (outputBytes-snoc vs v))
-    (written-more before after (outputBytes vs) (signedBytes v) (outputLength * i) (length-outputBytes vs ∙ ap (λ k. outputLength * k) count) l w)

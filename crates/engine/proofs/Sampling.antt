@@ -1,254 +1,280 @@
--- One sample, from the lists that the sweeps leave to the definition: the top's wave, the waves that arrive, the two refusals, the output and
--- what is stored.
-use Prim.Native.Nat.{ℕ, _-_, _<_, _≤_}
+-- One sample up to the limits of its leaves, for every circuit that a plan is laid out for: what the leaves send, what each sweep asks, and what both
+-- leave.
+use Prim.Native.Nat.{ℕ, suc, _+_, _-_, _<_, _≤_}
+use native.Mathlib.Decide.{decLt}
 use native.Mathlib.Omega.{arith}
-use mathlib.Core.Path.{_≡_, refl, sym, ap, ap₂, _∙_, subst}
-use mathlib.Core.Bool.{Bool, true, false, not, _||_}
-use mathlib.Core.Logic.{⊎-elim}
+use mathlib.Core.Path.{_≡_, refl, sym, ap, _∙_}
+use mathlib.Core.Bool.{true, false, cond, true≢false, and-eq-true-iff}
+use mathlib.Core.Logic.{_⊎_, inl, inr}
 use mathlib.Core.List.{List}
-use lib.ListN.{getD, length, set, length-set}
-use lib.IntN.{ℤ, natAbs}
-use borrow.Author.Tests.{not-true, not-false}
-use Rattle.whole.specs.Order.{Abs, abs-as}
-use Rattle.circuit.specs.Counting.{within, every, some, table}
-use Rattle.circuit.specs.Record.{partAt, isLeaf, sourceLimit, rowLimit, treeAt, treeOf, lastRow}
-use Rattle.circuit.specs.Curve.{waveLimit, reflected}
+use lib.ListN.{set, length-set}
+use lib.Seq.{getD-set-same, getD-set-other}
+use lib.IntN.{ℤ, pos}
+use lib.Ieee.Bits.{is-true}
+use lib.Ieee.Positive.{positive}
+use Rattle.whole.specs.Order.{zarith, Abs, abs-as}
+use Rattle.circuit.specs.Counting.{within}
+use Rattle.circuit.specs.Record.{partAt, isBlank, isLeaf, isInput, soundPart, sourceLimit, treeOf, lastRow}
 use Rattle.circuit.specs.SetUp.{ratioAt}
-use Rattle.circuit.specs.Sample.{rounded, sendsUp, reach, risen, arriving, kept, output, inLimit, sampled, refused, finished, storedAt}
+use Rattle.circuit.specs.Curve.{waveLimit, reflected}
+use Rattle.circuit.specs.Sample.{rounded, sends, partSends, sent, risen, reach, arriving, inLimit, sampled, refused, storedAt}
+use Rattle.circuit.specs.Run.{soundWave}
+use Rattle.circuit.specs.declared.Element.{Element}
+use Rattle.circuit.specs.declared.Element.the-variants.{Resistor, Capacitor, Inductor, Input, Steady}
+use Rattle.circuit.specs.declared.Part.{Part}
+use Rattle.circuit.specs.declared.Part.the-variants.{Blank, Leaf, Adaptor}
 use Rattle.circuit.specs.declared.Record.{Record}
-use Rattle.circuit.specs.declared.Adaptor.{Adaptor as Joint}
-use Rattle.circuit.specs.declared.Part.the-variants.{Adaptor}
-use Rattle.laws.specs.Accepted.{adaptors as adaptorsIn, Accepted}
-use Rattle.engine.specs.Wave.{upLimit}
+use Rattle.laws.proofs.Drawn.{answer-never-exceeds}
 use Rattle.laws.proofs.Trees as Trees
-use Rattle.laws.proofs.Accepting.{truly}
-use Rattle.laws.proofs.Counting as Counting
-use Rattle.engine.specs.declared.plan.Shape.{Shape}
-use Rattle.engine.specs.Plan.{rank}
-use Rattle.engine.specs.declared.sample.Outcome.{Outcome}
-use Rattle.engine.specs.Sample.{Fixed, Loaded, lifted, Lifts, landed, Lands, someOver, Settles, Settled, Works}
+use Rattle.engine.specs.Plan.{floor, roleOf, slotOf, topSlot, Plan}
+use Rattle.engine.specs.Sweep.{rises, Risen, Swept, Climbs, Modest, Drops, Reached}
+use Rattle.engine.specs.Sample.{Fixed, Loaded}
 use Rattle.engine.proofs.Limits.{within-abs}
-use Rattle.engine.proofs.Ranks.{place, has-place, size-most}
-use Rattle.engine.proofs.Stages.{leaf-or-adaptor, children-lower, Lined}
-use Rattle.engine.proofs.Climb as Climb
-use Rattle.engine.proofs.Fall as Fall
-use Rattle.engine.proofs.Reach as Reach
-use Rattle.engine.proofs.Finishing.{Swept}
-use Rattle.engine.proofs.Finishing as Finishing
-use Rattle.engine.proofs.Sending.{sends-at, sends-quiet, loaded-sends, all-sent, leaf-inside}
+use Rattle.engine.proofs.Turn.{adaptor-slot}
+use Rattle.engine.proofs.Fall.{modest-set}
 
-module _ {shape : Shape} {words adaptors leaves reactive : List ℕ} {xs ys : List ℤ} {r : Record}
-    (fixed : Fixed shape words adaptors leaves reactive xs ys r) {ws ups : List ℤ} (loaded : Loaded r ws ups) (x : ℤ) where
-  pub refuses-loud : within sourceLimit x ≡ false → sampled r ws x ≡ refused 14
-  unfolding sampled
-  refuses-loud e = rw e
+-- ---- the leaves' slots
 
-  module _ (quiet : within sourceLimit x ≡ true) where
-    abbrev acc : Accepted r
-    acc = fixed .accepted
+pub leaf-of : (p : Part) → isLeaf p ≡ true → (y : Element) × (p ≡ Leaf y)
+leaf-of Blank e = absurd (true≢false (sym e))
+leaf-of (Leaf y) e = (y, refl)
+leaf-of (Adaptor a) e = absurd (true≢false (sym e))
 
-    lined : Lined r words adaptors (shape .adaptors)
-    lined = record { accepted = fixed .accepted; says = fixed .planned .says; lists = fixed .planned .adaptors }
+-- one of the first n, or the input's
+abbrev pub LeafSlot : ℕ → ℕ → Type 0
+LeafSlot n s = (s < n) ⊎ (s ≡ floor)
 
-    abbrev n : ℕ
-    n = shape .adaptors
+module _ {p : Plan} {r : Record} (fixed : Fixed p r) where
+  abbrev n : ℕ
+  n = p .shape .adaptors
 
-    -- the waves that are there before the sweep up, and after it
-    abbrev started : List ℤ
-    started = set ups (shape .input) x
+  -- a leaf's row is in use
+  pub leaf-inside : (j : ℕ) → isLeaf (partAt r j) ≡ true → j < r .count
+  leaf-inside j e = by (decLt j (r .count))
+    where
+      by : Dec (j < r .count) → j < r .count
+      by (yes l) = l
+      by (no l) = absurd (true≢false (sym e ∙ ap isLeaf (fixed .accepted .blank j (omega arith))))
 
-    abbrev above : List ℤ
-    above = lifted shape words adaptors ups x
+  -- a row in use is a leaf's where its slot is not above the floor
+  low-leaf : (j : ℕ) → j < r .count → slotOf r j ≤ floor → isLeaf (partAt r j) ≡ true
+  low-leaf j l h = by (partAt r j) refl
+    where
+      by : (p : Part) → partAt r j ≡ p → isLeaf p ≡ true
+      by Blank e = absurd (true≢false (sym (ap isBlank e) ∙ fixed .accepted .present j l))
+      by (Leaf y) e = refl
+      by (Adaptor a) e = absurd (omega (arith, adaptor-slot (fixed .slotted) j l e))
 
-    abbrev w : ℕ → ℤ
-    w = sends-at r acc ws ups loaded x quiet
+  -- only the input stands at the floor
+  stands : (j : ℕ) → j < r .count → (y : Element) → partAt r j ≡ Leaf y
+      → ((slotOf r j < n) × (isInput (Leaf y) ≡ false)) ⊎ ((slotOf r j ≡ floor) × (isInput (Leaf y) ≡ true))
+  unfolding roleOf
+  stands j l (Resistor v) e = inl (omega (arith, fixed .slotted .other j l (ap roleOf e)), refl)
+  stands j l (Capacitor v) e = inl (omega (arith, fixed .slotted .reactive j l (ap roleOf e)), refl)
+  stands j l (Inductor v) e = inl (omega (arith, fixed .slotted .reactive j l (ap roleOf e)), refl)
+  stands j l (Input v) e = inr (fixed .slotted .input j l (ap roleOf e), refl)
+  stands j l (Steady v m) e = inl (omega (arith, fixed .slotted .other j l (ap roleOf e)), refl)
 
-    long : length started ≡ rowLimit
-    long = length-set ups (shape .input) x ∙ loaded .long
+  pub leaf-slot : (j : ℕ) → isLeaf (partAt r j) ≡ true → LeafSlot n (slotOf r j)
+  leaf-slot j e =
+      let y = leaf-of (partAt r j) e in
+      elim (stands j (leaf-inside j e) (y .0) (y .1)) [ inl h ↦ inl (h .0) | inr h ↦ inr (h .0) ]
 
-    there : (j : ℕ) → j < r .count → isLeaf (partAt r j) ≡ true → storedAt started j ≡ w j
-    there = all-sent r acc ws ups loaded x quiet (shape .input) (fixed .inside) (fixed .input)
+  pub slot-low : {s : ℕ} → LeafSlot n s → s ≤ floor
+  slot-low (inl l) = omega arith
+  slot-low (inr e) = omega arith
 
-    top-row : r .count - 1 < r .count
-    top-row = let some = acc .some in omega arith
+  there : (s : ℕ) → LeafSlot n s → (fixed .slotted .row s < r .count) × (slotOf r (fixed .slotted .row s) ≡ s)
+  there s (inl l) = fixed .slotted .leaf s (omega arith)
+  there s (inr e) = rw e (fixed .slotted .source)
 
-    last-inside : shape .last < rowLimit
-    last-inside = let short = acc .short in rw (fixed .last) (omega (arith, top-row))
+  pub slot-leaf : (s : ℕ) → LeafSlot n s → (j : ℕ) × (j < r .count) × (isLeaf (partAt r j) ≡ true) × (slotOf r j ≡ s)
+  slot-leaf s k = let t = there s k in let low = slot-low k in (fixed .slotted .row s, t .0, low-leaf (fixed .slotted .row s) (t .0) (omega (arith, t .1)), t .1)
 
-    pub lifts : Lifts shape words adaptors ups x
-    lifts = let short = acc .short in record {
-      input = omega (arith, fixed .inside);
-      last = last-inside;
-      climbs = Climb.climbs lined w started long there (sends-quiet r acc ws ups loaded x quiet);
+-- ---- what one leaf sends
+
+none : Abs (pos 0) waveLimit
+none = omega zarith
+
+source-quiet : {z : ℤ} → within sourceLimit z ≡ true → Abs z waveLimit
+source-quiet {z} e = abs-as (within-abs sourceLimit z e) refl (omega arith)
+
+module _ (x s : ℤ) where
+  -- the input the sample, and any other the same with every sample
+  sends-either : (p : Part) → partSends rounded x s p ≡ cond (isInput p) x (partSends rounded (pos 0) s p)
+  unfolding sends
+  sends-either Blank = refl
+  sends-either (Leaf (Resistor v)) = refl
+  sends-either (Leaf (Capacitor v)) = refl
+  sends-either (Leaf (Inductor v)) = refl
+  sends-either (Leaf (Input v)) = refl
+  sends-either (Leaf (Steady v m)) = refl
+  sends-either (Adaptor a) = refl
+
+  part-quiet : (p : Part) → within sourceLimit x ≡ true → soundWave p s ≡ true → soundPart p ≡ true → Abs (partSends rounded x s p) waveLimit
+  unfolding sends
+  part-quiet Blank h k l = none
+  part-quiet (Leaf (Resistor v)) h k l = none
+  part-quiet (Leaf (Capacitor v)) h k l = within-abs waveLimit s k
+  part-quiet (Leaf (Inductor v)) h k l = within-abs waveLimit s k
+  part-quiet (Leaf (Input v)) h k l = source-quiet h
+  part-quiet (Leaf (Steady v m)) h k l = source-quiet (and-eq-true-iff (positive v) (within sourceLimit m) .0 l .1)
+  part-quiet (Adaptor a) h k l = none
+
+-- ---- before the sweep up
+
+pub refuses-loud : (r : Record) (ws : List ℤ) (x : ℤ) → within sourceLimit x ≡ false → sampled r ws x ≡ refused 14
+unfolding sampled
+refuses-loud r ws x e = rw e
+
+module _ {p : Plan} {r : Record} (fixed : Fixed p r) {ws ups : List ℤ} (loaded : Loaded r ws ups) (x : ℤ) where
+  abbrev w : ℕ → ℤ
+  w = sent rounded r (storedAt ws) x
+
+  leaf-rises : (j : ℕ) → isLeaf (partAt r j) ≡ true → rises r w j ≡ w j
+  leaf-rises j e =
+      let y = leaf-of (partAt r j) e in
+      Trees.up-leaf r (fixed .accepted .lower) j (Trees.tree-leaf r (fixed .accepted .lower) j (y .0) (y .1)) rounded (ratioAt r) w
+
+  -- with the sample at the floor every leaf has in its slot what it sends
+  all-sent : (j : ℕ) → j < r .count → isLeaf (partAt r j) ≡ true → storedAt (set ups floor x) (slotOf r j) ≡ w j
+  unfolding sent
+  all-sent j l e =
+      let y = leaf-of (partAt r j) e in
+      rw (sends-either x (storedAt ws j) (partAt r j))
+      (elim (stands fixed j l (y .0) (y .1)) [
+        | inl h ↦
+            let other = ap isInput (y .1) ∙ h .1 in
+            let apart : slotOf r j ≡ floor → ⊥ = λ q. omega (arith, h .0) in
+            rw other (getD-set-other ups floor (slotOf r j) x (pos 0) apart ∙ loaded .leaves j l e other)
+        | inr h ↦ rw (h .0, ap isInput (y .1) ∙ h .1) (getD-set-same ups floor x (pos 0) (omega (arith, loaded .long)))
+      ])
+
+  pub begun : Risen r w (suc floor) (set ups floor x)
+  begun = record {
+    long = length-set ups floor x ∙ loaded .long;
+    right = λ j l h. let e = low-leaf fixed j l (omega arith) in all-sent j l e ∙ sym (leaf-rises j e);
+  }
+
+  module _ (source : within sourceLimit x ≡ true) where
+    pub quiet : (j : ℕ) → Abs (w j) waveLimit
+    unfolding sent
+    quiet j = by (decLt j (r .count))
+      where
+        by : Dec (j < r .count) → Abs (partSends rounded x (storedAt ws j) (partAt r j)) waveLimit
+        by (yes l) =
+            let short = fixed .accepted .short in
+            part-quiet x (storedAt ws j) (partAt r j) source (loaded .sound j (omega arith)) (is-true _ (fixed .accepted .sound j l))
+        by (no l) = rw (fixed .accepted .blank j (omega arith)) none
+
+    abbrev pub swept : Swept (p .joints) (p .shape .adaptors)
+    swept = record {
+      circuit = r;
+      wave = w;
+      accepted = fixed .accepted;
+      slotted = fixed .slotted;
+      all = fixed .adaptors;
+      staged = fixed .staged;
+      quiet = quiet;
     }
 
-    abbrev treeSends : ℕ → ℤ
-    treeSends = Climb.treeSends r w
+    abbrev pub climbs : Climbs (p .joints) (p .shape .adaptors) (set ups floor x)
+    climbs = record { swept = swept; begun = begun }
 
-    risen-at : (j : ℕ) → j < r .count → storedAt above j ≡ treeSends j
-    risen-at = Climb.all-risen lined w started long there (sends-quiet r acc ws ups loaded x quiet)
+-- ---- between the sweeps
 
-    pub above-long : length above ≡ rowLimit
-    above-long = Climb.risen-to lined w started long there n (omega arith) .long
+-- what the sweep up leaves
+pub record Raised (p : Plan) (r : Record) (ws ups : List ℤ) (x : ℤ) (above : List ℤ) : Type 0 where
+  pub fixed : Fixed p r
+  pub loaded : Loaded r ws ups
+  pub source : within sourceLimit x ≡ true
+  pub up : Risen r (sent rounded r (storedAt ws) x) (suc floor + p .shape .adaptors) above
 
-    -- a leaf's row keeps what the leaf sends
-    pub leaf-risen : (j : ℕ) → isLeaf (partAt r j) ≡ true → storedAt above j ≡ w j
-    leaf-risen j e =
-        let l = leaf-inside r acc j e in
-        risen-at j l ∙ ⊎-elim
-        (λ y. Trees.up-leaf r (acc .lower) j (Trees.tree-leaf r (acc .lower) j (y .0) (y .1)) rounded (ratioAt r) w)
-        (λ y. let z : _≡_ {A = Bool} true false = sym e ∙ ap isLeaf (y .1) in absurd (let k : _≡_ {A = ℕ} 0 1 = cc in omega arith))
-        (leaf-or-adaptor (partAt r j) (acc .present j l))
+-- what both leave, where the top's wave is in its limit
+pub record Landed (p : Plan) (r : Record) (ws : List ℤ) (x : ℤ) (above below : List ℤ) : Type 0 where
+  pub fixed : Fixed p r
+  pub source : within sourceLimit x ≡ true
+  pub calm : within waveLimit (risen rounded r (storedAt ws) x) ≡ true
+  pub quiet : (j : ℕ) → Abs (sent rounded r (storedAt ws) x j) waveLimit
+  pub still : Loaded r ws above
+  pub sends : (j : ℕ) → isLeaf (partAt r j) ≡ true → storedAt above (slotOf r j) ≡ sent rounded r (storedAt ws) x j
+  pub rises : storedAt above (topSlot r) ≡ risen rounded r (storedAt ws) x
+  pub arrives : (j : ℕ) → isLeaf (partAt r j) ≡ true → storedAt below (slotOf r j) ≡ arriving rounded (reflected r) r (storedAt ws) x j
+  pub returns : storedAt below (topSlot r) ≡ reflected r (risen rounded r (storedAt ws) x)
+  pub answer : Abs (storedAt below (topSlot r)) waveLimit
+  pub modest : Modest below
 
-    pub risen-top : storedAt above (shape .last) ≡ risen rounded r (storedAt ws) x
-    unfolding risen treeOf lastRow
-    risen-top = rw (fixed .last) (risen-at (r .count - 1) top-row)
+module _ {p : Plan} {r : Record} {ws ups : List ℤ} {x : ℤ} {above : List ℤ} (h : Raised p r ws ups x above) where
+  -- the top's slot, and the wave there
+  abbrev top : ℕ
+  top = floor + p .shape .adaptors
 
-    -- what every leaf but the input sends next is as it was
-    pub loaded-still : Loaded r ws above
-    loaded-still = record {
-      size = loaded .size;
-      long = above-long;
-      sound = loaded .sound;
-      leaves = λ j l e f. leaf-risen j e ∙ sym (loaded-sends r acc ws ups loaded x quiet j l e f) ∙ loaded .leaves j l e f;
+  abbrev wave : ℤ
+  wave = storedAt above top
+
+  top-slot : top ≡ topSlot r
+  top-slot = ap (_+_ floor) (h .fixed .adaptors)
+
+  leaf-risen : (j : ℕ) → isLeaf (partAt r j) ≡ true → storedAt above (slotOf r j) ≡ sent rounded r (storedAt ws) x j
+  leaf-risen j e =
+      let low = slot-low (h .fixed) (leaf-slot (h .fixed) j e) in
+      h .up .right j (leaf-inside (h .fixed) j e) (omega arith) ∙ leaf-rises (h .fixed) (h .loaded) x j e
+
+  -- what every leaf but the input sends next is as it was
+  pub still : Loaded r ws above
+  unfolding sent
+  still = record {
+    size = h .loaded .size;
+    long = h .up .long;
+    sound = h .loaded .sound;
+    leaves = λ j l e f. leaf-risen j e ∙ rw (sends-either x (storedAt ws j) (partAt r j), f);
+  }
+
+  top-wave : wave ≡ risen rounded r (storedAt ws) x
+  unfolding risen treeOf lastRow
+  top-wave =
+      let some = h .fixed .accepted .some in
+      let last = h .fixed .slotted .last in
+      ap (storedAt above) (top-slot ∙ sym last) ∙ h .up .right (r .count - 1) (omega arith) (omega (arith, top-slot))
+
+  pub refuses-top : within waveLimit wave ≡ false → sampled r ws x ≡ refused 15
+  unfolding sampled inLimit
+  refuses-top e = rw (h .source, ← top-wave, e)
+
+  module _ (calm : within waveLimit wave ≡ true) {answer : ℤ} (answers : answer ≡ reflected r wave) {ds : List ℤ} (room : Modest ds) where
+    pub answer-range : Abs answer waveLimit
+    answer-range =
+        let limit = within-abs waveLimit wave calm .bound in
+        record { bound = rw answers (omega (arith, answer-never-exceeds (h .fixed .accepted .drawn) wave)) }
+
+    pub answer-there : storedAt (set ds top answer) top ≡ answer
+    answer-there = getD-set-same ds top answer (pos 0) (omega (arith, room .long, h .fixed .adaptors, h .fixed .slotted .few))
+
+    abbrev pub drops : Drops (p .joints) (p .shape .adaptors) above (set ds top answer)
+    drops = record {
+      swept = swept (h .fixed) (h .loaded) x (h .source);
+      risen = h .up;
+      modest = modest-set room top (abs-as answer-range refl (omega arith));
+      answer = abs-as answer-range (sym answer-there) (omega arith);
     }
 
-    pub refuses-top : within waveLimit (storedAt above (shape .last)) ≡ false → sampled r ws x ≡ refused 15
-    unfolding sampled inLimit
-    refuses-top e = rw (quiet, ← risen-top, e)
+    answered : storedAt (set ds top answer) (topSlot r) ≡ answer
+    answered = ap (storedAt (set ds top answer)) (sym top-slot) ∙ answer-there
 
-    -- ---- down
-
-    module _ (calm : within waveLimit (storedAt above (shape .last)) ≡ true) (answer : ℤ) (answers : answer ≡ reflected r (storedAt above (shape .last)))
-        (small : natAbs answer ≤ natAbs (storedAt above (shape .last))) (ds : List ℤ) (room : length ds ≡ rowLimit) where
-      abbrev below : List ℤ
-      below = landed shape words adaptors above ds answer
-
-      answer-range : Abs answer waveLimit
-      answer-range = let bound = within-abs waveLimit (storedAt above (shape .last)) calm in record { bound = omega (arith, bound .bound) }
-
-      above-range : (j : ℕ) → j < r .count → Abs (storedAt above j) (upLimit (adaptorsIn (treeAt r j)))
-      above-range j l = rw (risen-at j l) (Climb.tree-sends-range lined w started long there (sends-quiet r acc ws ups loaded x quiet) j)
-
-      sent-up : (p : ℕ) (a : Joint) → p < r .count → partAt r p ≡ Adaptor a
-          → storedAt above p ≡ sendsUp rounded (a .join) (ratioAt r p) (storedAt above (a .first)) (storedAt above (a .second))
-      sent-up p a l e =
-          let lower = children-lower r acc p a e in
-          risen-at p l ∙ Climb.tree-sends-adaptor r acc w p a e
-          ∙ sym (ap₂ (sendsUp rounded (a .join) (ratioAt r p)) (risen-at (a .first) (omega arith)) (risen-at (a .second) (omega arith)))
-
-      begun : Fall.Falling lined above answer n (set ds (shape .last) answer)
-      begun =
-          subst (λ (i : ℕ). Fall.Falling lined above answer n (set ds i answer)) (sym (fixed .last))
-          (Reach.falling-begun lined above answer ds room)
-
-      pub lands : Lands shape words adaptors above ds answer
-      lands = let short = acc .short in record {
-        few = omega (arith, size-most (fixed .planned .adaptors));
-        last = last-inside;
-        drops = Fall.drops lined above above-range answer answer-range sent-up n (omega arith) (set ds (shape .last) answer) begun;
-      }
-
-      fallen : Fall.Falling lined above answer 0 below
-      fallen = Fall.fallen lined above above-range answer answer-range sent-up n (omega arith) (set ds (shape .last) answer) begun
-
-      pub below-long : length below ≡ rowLimit
-      below-long = fallen .long
-
-      pub arrived : (j : ℕ) → isLeaf (partAt r j) ≡ true → storedAt below j ≡ arriving rounded (reflected r) r (storedAt ws) x j
-      unfolding arriving treeOf lastRow
-      arrived j e =
-          Reach.reached lined above w risen-at answer below fallen (r .count) (r .count - 1) top-row top-row j
-          (acc .held j (truly _ e))
-          ∙ ap (λ z. reach rounded (ratioAt r) w (treeAt r (r .count - 1)) z j) (fallen .above ∙ answers ∙ ap (reflected r) risen-top)
-
-      -- ---- the limit of the waves that arrive
-
-      abbrev over : Bool
-      over = someOver leaves (shape .leaves) below
-
-      abbrev Keeps : ℕ → Bool
-      Keeps j = not (isLeaf (partAt r j)) || within waveLimit (arriving rounded (reflected r) r (storedAt ws) x j)
-
-      over-false : over ≡ false → every Keeps rowLimit ≡ true
-      over-false e = Counting.true-every Keeps rowLimit (λ j l. by j (isLeaf (partAt r j)) refl)
-        where
-          by : (j : ℕ) (b : Bool) → isLeaf (partAt r j) ≡ b → (not b || within waveLimit (arriving rounded (reflected r) r (storedAt ws) x j)) ≡ true
-          by j false q = refl
-          by j true q =
-              let lists = fixed .planned .leaves in
-              let l = leaf-inside r acc j q in
-              let calm-here = not-false _ (Counting.some-false _ (shape .leaves) e (rank (λ i. isLeaf (partAt r i)) j) (has-place lists j l q)) in
-              rw (← arrived j q, ← lists .each j l q) calm-here
-
-      over-true : over ≡ true → every Keeps rowLimit ≡ false
-      over-true e =
-          let found = Counting.true-some _ (shape .leaves) e in
-          let leaf = place (fixed .planned .leaves) (found .0) (found .1) in
-          let short = acc .short in
-          let inside = leaf .inside in
-          let loud = not-true _ (found .2) in
-          Counting.every-false Keeps rowLimit (leaf .row) (omega arith) (rw (leaf .chosen, ← arrived (leaf .row) (leaf .chosen), ← leaf .listed) loud)
-
-      in-limit : within waveLimit (risen rounded r (storedAt ws) x) ≡ true
-      in-limit = rw (← risen-top) calm
-
-      refuses-leaf : over ≡ true → sampled r ws x ≡ refused 15
-      unfolding sampled inLimit
-      refuses-leaf e = rw (quiet, in-limit, over-true e)
-
-      module _ (calm-leaves : over ≡ false) where
-        finishes : sampled r ws x ≡ finished (output rounded (reflected r) r (storedAt ws) x) (table (kept rounded (reflected r) r (storedAt ws) x) rowLimit)
-        unfolding sampled inLimit
-        finishes = rw (quiet, in-limit, over-false calm-leaves)
-
-        swept : Swept r ws x above below
-        swept = record {
-          accepted = acc;
-          long = above-long;
+    pub landed : {below : List ℤ} → Reached r (sent rounded r (storedAt ws) x) (set ds top answer) below → Landed p r ws x above below
+    unfolding arriving
+    landed k =
+        let diode = answered ∙ answers ∙ ap (reflected r) top-wave in
+        record {
+          fixed = h .fixed;
+          source = h .source;
+          calm = rw (← top-wave) calm;
+          quiet = quiet (h .fixed) (h .loaded) x (h .source);
+          still = still;
           sends = leaf-risen;
-          quiet = sends-quiet r acc ws ups loaded x quiet;
-          arrives = arrived;
-          calm = λ j e.
-              let short = acc .short in
-              let inside = leaf-inside r acc j e in
-              rw e at (Counting.every-true Keeps rowLimit (over-false calm-leaves) j (omega arith));
-          rises = rw (fixed .last) at risen-top;
-          returns = fallen .above ∙ answers ∙ ap (reflected r) risen-top;
-          calm-top = within-abs waveLimit (risen rounded r (storedAt ws) x) in-limit;
-          calm-back = abs-as answer-range (answers ∙ ap (reflected r) risen-top) (omega arith);
+          rises = ap (storedAt above) (sym top-slot) ∙ top-wave;
+          arrives = λ j e. k .leaves j e ∙ ap (λ z. reach rounded (ratioAt r) (sent rounded r (storedAt ws) x) (treeOf r) z j) diode;
+          returns = k .above ∙ diode;
+          answer = abs-as answer-range (sym (k .above ∙ answered)) (omega arith);
+          modest = k .modest;
         }
-
-      -- ---- the end of the sample
-
-      leaf-row : (k : ℕ) → k < shape .leaves → getD leaves k 0 < rowLimit
-      leaf-row k l = let short = acc .short in let w = place (fixed .planned .leaves) k l in rw (w .listed) (omega (arith, w .inside))
-
-      pub settles : Settles shape words leaves reactive above below
-      settles = let short = acc .short in record {
-        few = omega (arith, size-most (fixed .planned .leaves));
-        leaf = leaf-row;
-        tap = rw (fixed .tap) (Finishing.tap-inside r acc);
-        calm = λ e. let s = swept e in record {
-          sent = rw (fixed .tap) (Finishing.sent-range r ws x above below s);
-          arriving = rw (fixed .tap) (Finishing.arrived-range r ws x above below s);
-          restores = Finishing.restores r ws x above below s words reactive (shape .reactive) (fixed .planned .says) (fixed .planned .reactive);
-        };
-      }
-
-      -- what it comes to is the definition's sample
-      pub settled-works : {o : Outcome} {after : List ℤ} → Settled shape words leaves reactive above below o after → Works r ws x o after
-      unfolding Works
-      settled-works {o} {after} h = by over refl
-        where
-          by : (b : Bool) → over ≡ b → Works r ws x o after
-          by true e = let s = h .over e in rw (s .0, s .1) (refuses-leaf e, loaded-still)
-          by false e =
-              let s = h .calm e in
-              let done = finishes e in
-              let read : s .0 .0 ≡ output rounded (reflected r) r (storedAt ws) x = s .2 ∙ rw (fixed .tap) (Finishing.reads r ws x above below (swept e)) in
-              rw (s .1, s .3) (
-                table (kept rounded (reflected r) r (storedAt ws) x) rowLimit,
-                rw read done,
-                Finishing.loaded-next r ws x above below (swept e) words reactive (shape .reactive) (fixed .planned .says) (fixed .planned .reactive) _ done,
-              )

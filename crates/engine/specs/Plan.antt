@@ -1,14 +1,14 @@
--- What a run lays out of a record before its first sample.
-use Prim.Native.Nat.{ℕ, _+_, _/_, _%_, _<_}
+-- What a run lays out of a record before its first sample: a slot for each row, and in the order of the slots what a sample reads.
+use Prim.Native.Nat.{ℕ, zero, suc, _+_, _-_, _<_, _≤_}
 use mathlib.Core.Path.{_≡_}
-use mathlib.Core.Bool.{Bool, true, false, cond}
+use mathlib.Core.Bool.{cond}
 use mathlib.Core.List.{List}
 use lib.Dec.{eqb}
-use lib.IntN.{ℤ, pos}
-use lib.ListN.{getD, set}
+use lib.IntN.{ℤ, pos, negsuc}
+use lib.ListN.{length, getD}
 use lib.Ieee.{nan}
 use Rattle.circuit.specs.Counting.{total, one}
-use Rattle.circuit.specs.Record.{partAt, isLeaf, rowLimit, isAdaptor}
+use Rattle.circuit.specs.Record.{top, rowIn, partAt, adaptorsOf}
 use Rattle.circuit.specs.SetUp.{ratioAt}
 use Rattle.circuit.specs.Run.{isReactive}
 use Rattle.circuit.specs.declared.Element.{Element}
@@ -19,39 +19,111 @@ use Rattle.circuit.specs.declared.Adaptor.{Adaptor as Joint}
 use Rattle.circuit.specs.declared.Part.{Part}
 use Rattle.circuit.specs.declared.Part.the-variants.{Blank, Leaf, Adaptor}
 use Rattle.circuit.specs.declared.Prepared.{Prepared}
+use Rattle.circuit.specs.declared.Row.{Row}
 use Rattle.circuit.specs.declared.Record.{Record}
-use Rattle.engine.specs.declared.plan.Listed.{Listed}
-use Rattle.engine.specs.declared.plan.Link.{Link}
-use Rattle.engine.specs.declared.plan.Choice.{Choice}
-use Rattle.engine.specs.declared.plan.Choice.the-variants.{Adaptors, Leaves, Reactive}
+use Rattle.laws.specs.Accepted.{adaptorLimit, Child, Accepted}
+use Rattle.engine.specs.declared.plan.Shape.{Shape}
 
--- ---- a row's word
+-- ---- slots
+
+-- the input's slot: the slots of the other leaves are below it, those of the adaptors above it
+abbrev pub floor : ℕ
+floor = adaptorLimit
+
+-- what a row is to a run: 0 a reactive leaf, 1 another leaf, 2 the input, 3 an adaptor, 4 a blank row
+unfoldable pub roleOf : Part → ℕ
+roleOf Blank = 4
+roleOf (Leaf (Resistor r)) = 1
+roleOf (Leaf (Capacitor c)) = 0
+roleOf (Leaf (Inductor l)) = 0
+roleOf (Leaf (Input r)) = 2
+roleOf (Leaf (Steady r v)) = 1
+roleOf (Adaptor a) = 3
+
+-- how many of the first n rows have a role
+unfoldable pub rank : List Row → ℕ → ℕ → ℕ
+rank rows role n = total (λ j. one (eqb (roleOf (rowIn rows j .part)) role)) n
+
+-- the first slot of a role, where so many rows are in use
+unfoldable pub base : List Row → ℕ → ℕ → ℕ
+base rows count zero = 0
+base rows count (suc zero) = rank rows 0 count
+base rows count (suc (suc zero)) = floor
+base rows count (suc (suc (suc role))) = suc floor
+
+-- the rows of a role have the slots from there on, in their order
+unfoldable pub slotIn : List Row → ℕ → ℕ → ℕ
+slotIn rows count j = base rows count (roleOf (rowIn rows j .part)) + rank rows (roleOf (rowIn rows j .part)) j
+
+abbrev pub slotOf : Record → ℕ → ℕ
+slotOf r = slotIn (r .rows) (r .count)
+
+-- the slot of the top
+abbrev pub topSlot : Record → ℕ
+topSlot r = floor + adaptorsOf r
+
+-- how many reactive leaves there are
+abbrev pub reactives : Record → ℕ
+reactives r = rank (r .rows) 0 (r .count)
+
+-- Where the rows of an accepted circuit stand: `row` leads back from a slot, so that two rows have two slots.
+pub record Slotted (r : Record) : Type 0 where
+  pub row : ℕ → ℕ
+  pub back : (j : ℕ) → j < r .count → row (slotOf r j) ≡ j
+  pub few : adaptorsOf r ≤ adaptorLimit
+  pub fewer : reactives r ≤ adaptorsOf r
+  -- a reactive leaf, another, the input, an adaptor
+  pub reactive : (j : ℕ) → j < r .count → roleOf (partAt r j) ≡ 0 → slotOf r j < reactives r
+  pub other : (j : ℕ) → j < r .count → roleOf (partAt r j) ≡ 1 → (reactives r ≤ slotOf r j) × (slotOf r j < adaptorsOf r)
+  pub input : (j : ℕ) → j < r .count → roleOf (partAt r j) ≡ 2 → slotOf r j ≡ floor
+  pub adaptor : (j : ℕ) → j < r .count → roleOf (partAt r j) ≡ 3 → (floor < slotOf r j) × (slotOf r j ≤ topSlot r)
+  -- a leaf stands in every slot below the number of adaptors, and the input at the floor
+  pub leaf : (s : ℕ) → s < adaptorsOf r → (row s < r .count) × (slotOf r (row s) ≡ s)
+  pub source : (row floor < r .count) × (slotOf r (row floor) ≡ floor)
+  pub above : (p c : ℕ) → Child (partAt r p) c → slotOf r c < slotOf r p
+  pub last : slotOf r (r .count - 1) ≡ topSlot r
+
+-- ---- adaptors, by their places k in the sweep
+
+-- their kinds as numbers, their children's slots, and their ratios
+pub record Joints : Type 0 where
+  pub joins : List ℕ
+  pub firsts : List ℕ
+  pub seconds : List ℕ
+  pub ratios : List ℤ
+
+abbrev pub jointsOf : List ℕ → List ℕ → List ℕ → List ℤ → Joints
+jointsOf joins firsts seconds ratios = record { joins = joins; firsts = firsts; seconds = seconds; ratios = ratios }
 
 abbrev pub joinOf : ℕ → Join
-joinOf code = cond (eqb code 0) Series Parallel
+joinOf code = cond (eqb code 0) Parallel Series
 
-abbrev pub codeOf : Join → ℕ
-codeOf Series = 0
-codeOf Parallel = 1
+-- what stands at k is of the adaptor with slot floor + 1 + k
+pub record Stage (r : Record) (js : Joints) (k : ℕ) : Type 0 where
+  pub row : ℕ
+  pub joint : Joint
+  pub inside : row < r .count
+  pub part : partAt r row ≡ Adaptor joint
+  pub place : slotOf r row ≡ suc floor + k
+  pub join : joinOf (getD (js .joins) k 0) ≡ joint .join
+  pub first : getD (js .firsts) k 0 ≡ slotOf r (joint .first)
+  pub second : getD (js .seconds) k 0 ≡ slotOf r (joint .second)
+  pub ratio : getD (js .ratios) k (pos 0) ≡ pos (ratioAt r row)
 
--- the adaptor that a word stands for
-unfoldable pub linkOf : ℕ → Link
-linkOf w = record { join = joinOf (w / 65536 % 256); ratio = w / 4294967296; first = w % 256; second = w / 256 % 256 }
+abbrev pub Staged : Record → Joints → Type 0
+Staged r js = (k : ℕ) → k < adaptorsOf r → Stage r js k
 
-abbrev pub linkFor : Joint → ℕ → Link
-linkFor a g = record { join = a .join; ratio = g; first = a .first; second = a .second }
+-- ---- leaves
 
--- what the word of a row says: of an adaptor with ratio g all of it; of a reactive leaf, whether it stores the opposite
-unfoldable pub Says : Part → ℕ → ℕ → Type 0
-Says Blank g w = Unit {0}
-Says (Leaf (Resistor r)) g w = Unit {0}
-Says (Leaf (Capacitor c)) g w = w ≡ 0
-Says (Leaf (Inductor l)) g w = w ≡ 1
-Says (Leaf (Input r)) g w = Unit {0}
-Says (Leaf (Steady r v)) g w = Unit {0}
-Says (Adaptor a) g w = linkOf w ≡ linkFor a g
-
--- ---- stored waves
+-- an inductor stores the opposite of the wave that reaches it
+abbrev pub turnOf : Part → ℤ
+turnOf Blank = pos 0
+turnOf (Leaf (Resistor r)) = pos 0
+turnOf (Leaf (Capacitor c)) = pos 0
+turnOf (Leaf (Inductor l)) = negsuc 0
+turnOf (Leaf (Input r)) = pos 0
+turnOf (Leaf (Steady r v)) = pos 0
+turnOf (Adaptor a) = pos 0
 
 -- a reactive leaf's stored wave; any other has none
 abbrev pub takenOut : Element → ℤ → ℤ
@@ -62,38 +134,44 @@ partTaken Blank w = pos 0
 partTaken (Leaf e) w = takenOut e w
 partTaken (Adaptor a) w = pos 0
 
--- ---- lists of rows
+-- the tap's row; at the top the two waves are the top's and the diode's
+abbrev pub tapRow : Record → ℕ
+tapRow r = cond (eqb (r .tap) top) (r .count - 1) (r .tap)
 
-abbrev pub isReactivePart : Part → Bool
-isReactivePart Blank = false
-isReactivePart (Leaf e) = isReactive e
-isReactivePart (Adaptor a) = false
+-- ---- all that the samples of a run read
 
-abbrev pub chosenBy : Choice → Part → Bool
-chosenBy Adaptors p = isAdaptor p
-chosenBy Leaves p = isLeaf p
-chosenBy Reactive p = isReactivePart p
+pub record Plan : Type 0 where
+  pub shape : Shape
+  pub joints : Joints
+  -- by slot
+  pub turns : List ℤ
+  -- by segment
+  pub lines : List (List ℤ)
+
+abbrev pub planOf : Shape → Joints → List ℤ → List (List ℤ) → Plan
+planOf shape joints turns lines = record { shape = shape; joints = joints; turns = turns; lines = lines }
+
+-- ---- what the plan is laid out from
 
 abbrev pub ratioIn : List Prepared → ℕ → ℕ
 ratioIn rows j = getD rows j (record { resistance = nan; ratio = 0 }) .ratio
 
-abbrev pub enteredIf : Bool → ℕ → Listed → Listed
-enteredIf true i l = record { rows = set (l .rows) (l .length) i; length = l .length + 1 }
-enteredIf false i l = l
+-- the rows' slots, and the prepared ratios of an accepted circuit
+pub record Layable (r : Record) (prepared : List Prepared) (slots : List ℕ) : Type 0 where
+  pub accepted : Accepted r
+  pub slotted : Slotted r
+  pub slot : (j : ℕ) → j < r .count → getD slots j 0 ≡ slotOf r j
+  pub ratio : (j : ℕ) → j < r .count → ratioIn prepared j ≡ ratioAt r j
 
--- how many rows below n are chosen: the place of row n in their list
-unfoldable pub rank : (ℕ → Bool) → ℕ → ℕ
-rank p n = total (λ j. one (p j)) n
+-- a circuit of so many rows, these, which stand in these slots
+pub record Seated (rows : List Row) (count : ℕ) (slots : List ℕ) (r : Record) : Type 0 where
+  pub prepared : List Prepared
+  pub all : r .rows ≡ rows
+  pub many : r .count ≡ count
+  pub layable : Layable r prepared slots
 
--- the chosen rows below n, in rising order
-pub record Ranked (p : ℕ → Bool) (n : ℕ) (rows : List ℕ) (size : ℕ) : Type 0 where
-  pub all : size ≡ rank p n
-  pub each : (j : ℕ) → j < n → p j ≡ true → getD rows (rank p j) 0 ≡ j
-
--- ---- the plan of a record: the words, and lists of `n` adaptors, `m` leaves and `q` reactive rows
-
-pub record Planned (r : Record) (words rows : List ℕ) (n : ℕ) (ends : List ℕ) (m : ℕ) (stores : List ℕ) (q : ℕ) : Type 0 where
-  pub says : (j : ℕ) → j < rowLimit → Says (partAt r j) (ratioAt r j) (getD words j 0)
-  pub adaptors : Ranked (λ j. isAdaptor (partAt r j)) (r .count) rows n
-  pub leaves : Ranked (λ j. isLeaf (partAt r j)) (r .count) ends m
-  pub reactive : Ranked (λ j. isReactivePart (partAt r j)) (r .count) stores q
+pub record Roomy (js : Joints) : Type 0 where
+  pub joins : length (js .joins) ≡ adaptorLimit
+  pub firsts : length (js .firsts) ≡ adaptorLimit
+  pub seconds : length (js .seconds) ≡ adaptorLimit
+  pub ratios : length (js .ratios) ≡ adaptorLimit

@@ -1,64 +1,59 @@
--- The sweeps over lists of waves, one for each row: what an adaptor's visit makes of them, and the visits in order. `words` has a word for
--- each row, and `adaptors` the adaptors' rows.
-use Prim.Native.Nat.{ℕ, zero, suc, _<_, _≤_}
+-- The sweeps over lists of waves, one for each slot: what they find and what they leave, for every circuit that is laid out so.
+use Prim.Native.Nat.{ℕ, suc, _+_, _<_}
+use mathlib.Core.Path.{_≡_}
+use mathlib.Core.Bool.{true}
 use mathlib.Core.List.{List}
 use lib.IntN.{ℤ}
-use lib.ListN.{getD, set}
-use Rattle.circuit.specs.Sample.{sendsUp, sendsFirst, sendsSecond, storedAt, rounded}
-use Rattle.circuit.specs.Record.{rowLimit}
-use Rattle.engine.specs.declared.plan.Link.{Link}
-use Rattle.engine.specs.Wave.{Below, Beneath}
-use Rattle.engine.specs.Plan.{linkOf}
+use lib.ListN.{length}
+use Rattle.whole.specs.Order.{Abs}
+use Rattle.circuit.specs.Record.{rowLimit, partAt, isLeaf, adaptorsOf, treeAt, treeOf}
+use Rattle.circuit.specs.SetUp.{ratioAt}
+use Rattle.circuit.specs.Curve.{waveLimit}
+use Rattle.circuit.specs.Sample.{rounded, up, reach, storedAt}
+use Rattle.circuit.specs.declared.Record.{Record}
+use Rattle.laws.specs.Accepted.{adaptorLimit, Accepted}
+use Rattle.engine.specs.Wave.{downLimit}
+use Rattle.engine.specs.Plan.{floor, slotOf, topSlot, Slotted, Joints, Staged}
 
-abbrev pub linkAt : List ℕ → ℕ → Link
-linkAt words i = linkOf (getD words i 0)
+-- what row j's tree sends up, where w j is what a leaf at row j sends
+abbrev pub rises : Record → (ℕ → ℤ) → ℕ → ℤ
+rises r w j = up rounded (ratioAt r) w (treeAt r j)
 
--- ---- up
+-- every row whose slot is below s has its wave there
+pub record Risen (r : Record) (w : ℕ → ℤ) (s : ℕ) (us : List ℤ) : Type 0 where
+  pub long : length us ≡ rowLimit
+  pub right : (j : ℕ) → j < r .count → slotOf r j < s → storedAt us (slotOf r j) ≡ rises r w j
 
--- row i holds what its adaptor sends up
-unfoldable pub raised : Link → ℕ → List ℤ → List ℤ
-raised l i ups = set ups i (sendsUp rounded (l .join) (l .ratio) (storedAt ups (l .first)) (storedAt ups (l .second)))
+-- a circuit whose adaptors stand so, and the waves that its leaves send
+pub record Swept (js : Joints) (n : ℕ) : Type 0 where
+  pub circuit : Record
+  pub wave : ℕ → ℤ
+  pub accepted : Accepted circuit
+  pub slotted : Slotted circuit
+  pub all : n ≡ adaptorsOf circuit
+  pub staged : Staged circuit js
+  pub quiet : (j : ℕ) → Abs (wave j) waveLimit
 
-pub record Raises (l : Link) (i : ℕ) (ups : List ℤ) : Type 0 where
-  pub here : i < rowLimit
-  pub first : l .first < rowLimit
-  pub second : l .second < rowLimit
-  pub waves : Below (l .ratio) (storedAt ups (l .first)) (storedAt ups (l .second))
+-- the leaves' waves stand in their slots
+pub record Climbs (js : Joints) (n : ℕ) (ups : List ℤ) : Type 0 where
+  pub swept : Swept js n
+  pub begun : Risen (swept .circuit) (swept .wave) (suc floor) ups
 
--- the first k adaptors have sent their waves up, the lowest row first
-unfoldable pub climbed : List ℕ → List ℕ → ℕ → List ℤ → List ℤ
-climbed words adaptors zero ups = ups
-climbed words adaptors (suc k) ups = raised (linkAt words (getD adaptors k 0)) (getD adaptors k 0) (climbed words adaptors k ups)
+-- waves that arrive, in slots that are in use and in those that are not
+pub record Modest (ds : List ℤ) : Type 0 where
+  pub long : length ds ≡ rowLimit
+  pub small : (s : ℕ) → Abs (storedAt ds s) (downLimit adaptorLimit)
 
-pub record Climbs (words adaptors : List ℕ) (n : ℕ) (ups : List ℤ) : Type 0 where
-  pub few : n ≤ rowLimit
-  pub row : (k : ℕ) → k < n → getD adaptors k 0 < rowLimit
-  pub each : (k : ℕ) → k < n → Raises (linkAt words (getD adaptors k 0)) (getD adaptors k 0) (climbed words adaptors k ups)
+-- all waves are up, and a wave comes from above
+pub record Drops (js : Joints) (n : ℕ) (ups ds : List ℤ) : Type 0 where
+  pub swept : Swept js n
+  pub risen : Risen (swept .circuit) (swept .wave) (suc floor + n) ups
+  pub modest : Modest ds
+  pub answer : Abs (storedAt ds (floor + n)) waveLimit
 
--- ---- down
-
--- an adaptor's children hold what it sends them, from the wave that row i holds
-unfoldable pub lowered : Link → ℕ → List ℤ → List ℤ → List ℤ
-lowered l i ups ds =
-    let a1 = storedAt ups (l .first) in
-    let a2 = storedAt ups (l .second) in
-    let a3 = storedAt ds i in
-    set (set ds (l .first) (sendsFirst rounded (l .join) (l .ratio) a1 a2 a3)) (l .second) (sendsSecond rounded (l .join) (l .ratio) a1 a2 a3)
-
-pub record Lowers (l : Link) (i : ℕ) (ups ds : List ℤ) : Type 0 where
-  pub here : i < rowLimit
-  pub first : l .first < rowLimit
-  pub second : l .second < rowLimit
-  pub waves : Beneath (l .join) (l .ratio) (storedAt ups (l .first)) (storedAt ups (l .second)) (storedAt ups i) (storedAt ds i)
-
--- the adaptors below the k-th place have sent their waves down, the highest row first
-unfoldable pub dropped : List ℕ → List ℕ → List ℤ → ℕ → List ℤ → List ℤ
-dropped words adaptors ups zero ds = ds
-dropped words adaptors ups (suc k) ds =
-    dropped words adaptors ups k (lowered (linkAt words (getD adaptors k 0)) (getD adaptors k 0) ups ds)
-
-unfoldable pub Drops : List ℕ → List ℕ → List ℤ → ℕ → List ℤ → Type 0
-Drops words adaptors ups zero ds = Unit {0}
-Drops words adaptors ups (suc k) ds =
-    Lowers (linkAt words (getD adaptors k 0)) (getD adaptors k 0) ups ds
-    × Drops words adaptors ups k (lowered (linkAt words (getD adaptors k 0)) (getD adaptors k 0) ups ds)
+-- the top keeps its wave, and every leaf has the wave that reaches it
+pub record Reached (r : Record) (w : ℕ → ℤ) (before ds : List ℤ) : Type 0 where
+  pub modest : Modest ds
+  pub above : storedAt ds (topSlot r) ≡ storedAt before (topSlot r)
+  pub leaves : (j : ℕ) → isLeaf (partAt r j) ≡ true
+      → storedAt ds (slotOf r j) ≡ reach rounded (ratioAt r) w (treeOf r) (storedAt before (topSlot r)) j

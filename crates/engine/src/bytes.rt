@@ -3,12 +3,12 @@ use circuit::Doubled;
 use circuit::SAMPLE_LENGTH;
 use circuit::sample_of;
 ghost use mathlib.Core.Path.{_≡_};
-ghost use Prim.Native.Nat.{_+_, _*_, _<_, _≤_};
+ghost use Prim.Native.Nat.{_+_, _*_, _%_, _^_, _<_, _≤_};
 ghost use mathlib.Core.List.{_++_};
 ghost use lib.ListN.{length, getD};
 ghost use lib.Seq.{sets};
-ghost use Rattle.circuit.specs.File.{bytes, signedBytes};
-ghost use Rattle.circuit.specs.Take.{sampleLength, outputLength, sampleAt};
+ghost use Rattle.circuit.specs.File.{bytes, numberAt, signedBytes};
+ghost use Rattle.circuit.specs.Take.{sampleLength, outputLength, signed, sampleAt};
 
 // Byte `at` of `left` and after it `more`.
 fn byte_at(left: &[u8], more: &[u8], at: usize) -> u8
@@ -22,20 +22,30 @@ fn byte_at(left: &[u8], more: &[u8], at: usize) -> u8
     }
 }
 
+// The sample in the three bytes from `at` on.
+fn sample_in(s: &[u8], at: usize) -> i32
+    requires { ⌜ at + sampleLength ≤ length (now s) ⌝ }
+    ensures { λ x. ⌜ x ≡ signed (numberAt sampleLength at (now (s .entry)) % 2 ^ 24) ⌝ }
+{
+    sample_of(s[at], s[at + 1], s[at + 2])
+}
+
 // Sample i of `left` and after it `more`. All but the first few stand in `more` alone.
 pub(crate) fn sample_at(left: &[u8], more: &[u8], i: usize) -> i32
     requires { ⌜ sampleLength * i + sampleLength ≤ length (now left) + length (now more) ⌝ }
     ensures { λ x. ⌜ x ≡ sampleAt i (now (left .entry) ++ now (more .entry)) ⌝ }
 {
     let at = SAMPLE_LENGTH * i;
+    if left.len() == 0 {
+        return sample_in(more, at);
+    }
     if at < left.len() {
         let a = byte_at(left, more, at);
         let b = byte_at(left, more, at + 1);
         let c = byte_at(left, more, at + 2);
         return sample_of(a, b, c);
     }
-    let k = at - left.len();
-    sample_of(more[k], more[k + 1], more[k + 2])
+    sample_in(more, at - left.len())
 }
 
 // 2^32 more is not negative, and has the same four lowest bytes.

@@ -1,110 +1,114 @@
-// The diode's answer to a wave: which segment of the drawn curve the wave falls in, and the straight line there. All numbers are whole
-// microvolts; a column's and a wave's keep 2^26, so no product reaches 2^55. The columns in use come as two lists, laid out once for a run.
-ghost use mathlib.Core.Path.{_≡_};
-ghost use mathlib.Core.List.{map};
-ghost use Rattle.whole.specs.Order.{Abs};
-ghost use Rattle.whole.specs.Fraction.{whole};
-ghost use Rattle.circuit.specs.Curve.{waveLimit, passed, drawn, towardZero, reflected};
-ghost use Rattle.circuit.specs.declared.CurveKind.the-variants.{Pair};
-ghost use Rattle.circuit.specs.declared.Record.{Record};
-ghost use Rattle.engine.specs.Curve.{across, back, Across, Plotted, Sloped, onSlope, Spans, onSegment};
+// The diode's answer to a wave. The curve is laid out once for a run as lines: line n holds left of its edge, and at a wave it is
+// (rise·wave + base) / (span + 1), rounded toward zero. Line 0 is left of the first column, and the edges after the columns are past every
+// wave. All numbers are whole microvolts; a column's and a wave's keep 2^26, so no product reaches 2^55.
 use circuit::COLUMNS;
 use circuit::Column;
 use circuit::CurveKind;
+use circuit::WAVE_LIMIT;
 use circuit::Wave;
+ghost use mathlib.Core.Path.{_≡_};
+ghost use Prim.Native.Nat.{_≤_};
+ghost use lib.IntN.{_-ℤ_};
+ghost use Rattle.whole.specs.Order.{Abs};
+ghost use Rattle.whole.specs.Fraction.{whole};
+ghost use Rattle.circuit.specs.Record.{columnLimit};
+ghost use Rattle.circuit.specs.Curve as Curve;
+ghost use Rattle.circuit.specs.Curve.{waveLimit, passed, towardZero, reflected};
+ghost use Rattle.circuit.specs.declared.Record.{Record};
+ghost use Rattle.laws.specs.Accepted.{Drawn};
+ghost use Rattle.engine.specs.Curve.{lineBy, Sloped, Drawing, Mirrors};
 
-// The columns' x and y in the width of a wave, so that the sample loop widens nothing.
-pub(crate) struct Axes {
-    pub xs: [i64; COLUMNS],
-    pub ys: [i64; COLUMNS],
-}
+// One line more than there are columns, and one more to make them a power of two.
+pub(crate) const LINES: usize = COLUMNS + 2;
 
-pub(crate) fn lay_out(columns: [Column; COLUMNS]) -> Axes
-    ensures { λ r. ⌜ (r .xs ≡ map across columns) × (r .ys ≡ map back columns) ⌝ }
+// A line: its edge, rise, base and span, which is its run less one: one more than a u32 is no 0, so no division asks for that.
+pub(crate) type Line = [i64; 4];
+
+// Past every wave.
+const BEYOND: i64 = 4611686018427387904;
+
+// The line through a column that rises by `rise` over `run`, up to an edge.
+fn through(edge: i64, c: Column, rise: i64, run: i64) -> Line
+    requires { ⌜ Sloped c rise run ⌝ }
+    ensures { λ l. ⌜ l ≡ lineBy edge c rise run ⌝ }
 {
-    let mut xs = [0i64; COLUMNS];
-    let mut ys = [0i64; COLUMNS];
-    let mut i = 0;
-    while i < COLUMNS {
-        let c = columns[i];
-        let x = c.x as i64;
-        let y = c.y as i64;
-        xs[i] = x;
-        ys[i] = y;
-        i += 1;
-    }
-    Axes { xs, ys }
+    let x = c.x as i64;
+    let y = c.y as i64;
+    let base = y * run - rise * x;
+    let span = run - 1;
+    [edge, rise, base, span]
 }
 
-// How many columns have an x that is not above the wave, by a walk from the left.
-fn segment(xs: &[i64], wave: i64) -> usize
-    ensures { λ n. ⌜ ((r : Record) → Across r (now (xs .entry)) → n ≡ passed r (whole wave)) ⌝ }
+// The line from one column to the next.
+fn between(o: Column, n: Column) -> Line
+    requires { ⌜ Sloped o (n .y -ℤ o .y) (n .x -ℤ o .x) ⌝ }
+    ensures { λ l. ⌜ l ≡ lineBy (n .x) o (n .y -ℤ o .y) (n .x -ℤ o .x) ⌝ }
+{
+    let x = n.x as i64;
+    through(x, o, (n.y as i64) - (o.y as i64), x - (o.x as i64))
+}
+
+// The line past the last column is laid first, in every place: no search goes past it.
+pub(crate) fn lines_of(columns: [Column; COLUMNS], width: usize) -> [Line; LINES]
+    requires { ⌜ ((r : Record) × (r .columns ≡ columns) × (r .width ≡ width) × Drawn r × (width ≤ columnLimit)) ⌝ }
+    ensures { λ lines. ⌜ ((r : Record) → r .columns ≡ columns → r .width ≡ width → Drawn r → width ≤ columnLimit → Drawing r lines) ⌝ }
+{
+    let last = columns[width - 1];
+    let mut lines = [through(BEYOND, last, -1, 1); LINES];
+    let first = columns[0];
+    let l = through(first.x as i64, first, 1, 1);
+    lines[0] = l;
+    for i in 1..width {
+        let before = columns[i - 1];
+        let here = columns[i];
+        let l = between(before, here);
+        lines[i] = l;
+    }
+    lines
+}
+
+// Waves below this one are answered by the opposite of the answer to their opposite: of a pair all that are negative, of a single none.
+pub(crate) fn mirror(kind: CurveKind) -> i64
+    ensures { λ m. ⌜ Mirrors kind m ⌝ }
+{
+    match kind {
+        CurveKind::Unset => 0,
+        CurveKind::Single => -(WAVE_LIMIT as i64),
+        CurveKind::Pair => 0,
+    }
+}
+
+// The number of the line that holds at a wave, by a walk from the left: how many columns have an x that is not above it.
+fn segment(lines: &[Line; LINES], wave: i64) -> usize
+    requires { ⌜ ((r : Record) × Drawing r (now lines)) × Abs wave waveLimit ⌝ }
+    ensures { λ n. ⌜ ((r : Record) → Drawing r (now (lines .entry)) → (n ≤ r .width) × (n ≡ passed r (whole wave))) ⌝ }
 {
     let mut n = 0;
-    while n < xs.len() {
-        let x = xs[n];
-        if wave < x {
-            return n;
-        }
+    while lines[n][0] <= wave {
         n += 1;
     }
-    xs.len()
+    n
 }
 
-// The line through the column (x, y) that rises by `rise` over `run`: its whole value at a wave, rounded toward zero.
-fn straight(x: i64, y: i64, rise: i64, run: i64, wave: i64) -> i64
-    requires { ⌜ Sloped x y rise run wave ⌝ }
-    ensures { λ r. ⌜ r ≡ onSlope x y rise run wave ⌝ }
+// The drawn line at a wave.
+fn drawn(lines: &[Line; LINES], wave: i64) -> i64
+    requires { ⌜ ((r : Record) × Drawing r (now lines)) × Abs wave waveLimit ⌝ }
+    ensures { λ a. ⌜ ((r : Record) → Drawing r (now (lines .entry)) → a ≡ towardZero (Curve.drawn r (whole wave))) ⌝ }
 {
-    (y * run + rise * (wave - x)) / run
-}
-
-// The line from the column (x, y) to the column (z, v).
-fn between(x: i64, y: i64, z: i64, v: i64, wave: i64) -> i64
-    requires { ⌜ Spans x y z v wave ⌝ }
-    ensures { λ r. ⌜ r ≡ onSegment x y z v wave ⌝ }
-{
-    straight(x, y, v - y, z - x, wave)
-}
-
-// The drawn line at a wave. Left of the first column it goes down one for one with the wave, past the last it falls one for one.
-fn drawn_line(xs: &[i64], ys: &[i64], wave: i64) -> i64
-    requires { ⌜ ((r : Record) × Plotted r (now xs) (now ys)) × Abs wave waveLimit ⌝ }
-    ensures { λ a. ⌜ ((r : Record) → Plotted r (now (xs .entry)) (now (ys .entry)) → a ≡ towardZero (drawn r (whole wave))) ⌝ }
-{
-    let n = segment(xs, wave);
-    if n == 0 {
-        return straight(xs[0], ys[0], 1, 1, wave);
-    }
-    let x = xs[n - 1];
-    let y = ys[n - 1];
-    if n == xs.len() {
-        return straight(x, y, -1, 1, wave);
-    }
-    between(x, y, xs[n], ys[n], wave)
-}
-
-// Of a pair a negative wave gets minus the answer for its opposite.
-fn paired(xs: &[i64], ys: &[i64], wave: i64) -> i64
-    requires { ⌜ ((r : Record) × (r .kind ≡ Pair) × Plotted r (now xs) (now ys)) × Abs wave waveLimit ⌝ }
-    ensures { λ a. ⌜ ((r : Record) → r .kind ≡ Pair → Plotted r (now (xs .entry)) (now (ys .entry)) → a ≡ reflected r wave) ⌝ }
-{
-    if wave < 0 {
-        -drawn_line(xs, ys, -wave)
-    } else {
-        drawn_line(xs, ys, wave)
-    }
+    let n = segment(lines, wave);
+    let l = lines[n];
+    (l[1] * wave + l[2]) / ((l[3] as u32) as i64 + 1)
 }
 
 // The wave that the diode sends back, with one division.
-pub(crate) fn reflect(kind: CurveKind, xs: &[i64], ys: &[i64], wave: Wave) -> Wave
-    requires { ⌜ ((r : Record) × (r .kind ≡ kind) × Plotted r (now xs) (now ys)) × Abs (wave .0) waveLimit ⌝ }
-    ensures { λ a. ⌜ ((r : Record) → r .kind ≡ kind → Plotted r (now (xs .entry)) (now (ys .entry)) → a .0 ≡ reflected r (wave .0)) ⌝ }
+pub(crate) fn reflect(mirror: i64, lines: &[Line; LINES], wave: Wave) -> Wave
+    requires { ⌜ ((r : Record) × Drawing r (now lines) × Mirrors (r .kind) mirror) × Abs (wave .0) waveLimit ⌝ }
+    ensures { λ a. ⌜ ((r : Record) → Drawing r (now (lines .entry)) → Mirrors (r .kind) mirror → a .0 ≡ reflected r (wave .0)) ⌝ }
 {
     let a = wave.0;
-    match kind {
-        CurveKind::Unset => Wave(0),
-        CurveKind::Single => Wave(drawn_line(xs, ys, a)),
-        CurveKind::Pair => Wave(paired(xs, ys, a)),
+    if a < mirror {
+        Wave(-drawn(lines, -a))
+    } else {
+        Wave(drawn(lines, a))
     }
 }

@@ -1,8 +1,10 @@
-// What a run lays out of a record before its first sample: a word for each row, and lists of the rows that a sweep visits.
-use crate::curve::lay_out;
-use circuit::Adaptor;
-use circuit::COLUMNS;
-use circuit::CurveKind;
+// What a run lays out of a record before its first sample. Waves stand in slots: the reactive leaves from slot 0 on, then the other leaves, the
+// input at FLOOR, and above it the adaptors in the order of their rows, which is that of the sweep. What a sweep reads of adaptor k stands at k,
+// and its wave at FLOOR + 1 + k. The last adaptor is the top; where there is none the input is.
+use crate::curve::LINES;
+use crate::curve::Line;
+use crate::curve::lines_of;
+use crate::curve::mirror;
 use circuit::Element;
 use circuit::Join;
 use circuit::Part;
@@ -12,224 +14,199 @@ use circuit::Record;
 use circuit::Row;
 use circuit::TOP;
 ghost use mathlib.Core.Path.{_≡_};
-ghost use mathlib.Core.Bool.{true, cond};
-ghost use Prim.Native.Nat.{ℕ, _≤_, _<_};
+ghost use mathlib.Core.Bool.{cond};
+ghost use mathlib.Core.List.{List};
+ghost use Prim.Native.Nat.{ℕ, _-_, _≤_, _<_};
 ghost use lib.Dec.{eqb};
 ghost use lib.ListN.{getD};
-ghost use Rattle.circuit.specs.Counting.{total, one};
-ghost use Rattle.circuit.specs.Record.{rowLimit, top, rowIn, isAdaptor, isInput};
-ghost use Rattle.circuit.specs.declared.Part.{Part};
-ghost use Rattle.engine.specs.Plan.{joinOf, codeOf, linkOf, Says, isReactivePart, chosenBy, enteredIf, ratioIn, Ranked};
-ghost use Rattle.engine.specs.Sample.{Ready, Plans};
+ghost use Rattle.circuit.specs.Record.{rowLimit, top, partAt, adaptorsOf};
+ghost use Rattle.circuit.specs.Sample.{storedAt};
+ghost use Rattle.circuit.specs.declared.Part.the-variants.{Leaf};
+ghost use Rattle.circuit.specs.declared.Prepared.{Prepared};
+ghost use Rattle.circuit.specs.declared.Record.{Record};
+ghost use Rattle.engine.specs.Curve.{Mirrors};
+ghost use Rattle.engine.specs.Plan.{roleOf, rank, slotIn, slotOf, joinOf, jointsOf, Staged, turnOf, tapRow, planOf, Layable, Seated, Roomy};
+ghost use Rattle.engine.specs.Sample.{Ready, Fixed};
 
-// An adaptor's row: its ratio in parts of 2^24, and its children's rows.
-pub(crate) struct Link {
-    pub join: Join,
-    pub ratio: u32,
-    pub first: usize,
-    pub second: usize,
-}
+// Room for the adaptors of a circuit, and for its leaves but the input.
+pub(crate) const JOINTS: usize = ROWS / 2;
 
-// Rows in rising order: the first `length` of `rows`.
-pub(crate) struct Listed {
-    pub rows: [u8; ROWS],
-    pub length: usize,
-}
+// The input's slot.
+pub(crate) const FLOOR: usize = JOINTS;
+
+// How many roles rows have: 0 is a reactive leaf, 1 another leaf, 2 the input, 3 an adaptor, 4 a blank row.
+const ROLES: usize = 5;
 
 // The numbers of a circuit that a sample asks for.
 pub(crate) struct Shape {
-    // how many adaptors, leaves and reactive rows there are
+    // how many adaptors and reactive leaves there are
     pub adaptors: usize,
-    pub leaves: usize,
     pub reactive: usize,
-    // the rows of the input, of the top, and of what the tap reads
-    pub input: usize,
-    pub last: usize,
+    // the slot that the tap reads
     pub tap: usize,
-    pub kind: CurveKind,
+    // waves below this one go to the diode as their opposites
+    pub mirror: i64,
 }
 
-// All that the samples of a run read.
-pub(crate) struct Plan {
-    pub words: [u64; ROWS],
-    pub adaptors: [u8; ROWS],
-    pub leaves: [u8; ROWS],
-    pub reactive: [u8; ROWS],
-    // how many columns are in use, and the columns
-    pub width: usize,
-    pub xs: [i64; COLUMNS],
-    pub ys: [i64; COLUMNS],
-    pub shape: Shape,
-}
-
-enum Choice {
-    Adaptors,
-    Leaves,
-    Reactive,
-}
-
-// A row's number, as an index.
-pub(crate) fn wide(row: u8) -> usize
-    ensures { λ r. ⌜ r ≡ row ⌝ }
+// A slot or a row, as an index.
+pub(crate) fn wide(slot: u8) -> usize
+    ensures { λ r. ⌜ r ≡ slot ⌝ }
 {
-    row as usize
+    slot as usize
 }
 
-fn join_of(code: u64) -> Join
+pub(crate) fn join_of(code: u8) -> Join
     ensures { λ r. ⌜ r ≡ joinOf code ⌝ }
 {
     if code == 0 {
-        Join::Series
-    } else {
         Join::Parallel
+    } else {
+        Join::Series
     }
 }
 
-fn code_of(join: Join) -> u64
-    ensures { λ r. ⌜ r ≡ codeOf join ⌝ }
+fn code_of(join: Join) -> u8
+    ensures { λ c. ⌜ joinOf c ≡ join ⌝ }
 {
     match join {
-        Join::Series => 0,
-        Join::Parallel => 1,
+        Join::Series => 1,
+        Join::Parallel => 0,
     }
 }
 
-// A sweep reads an adaptor by one load: a byte for each child, a byte for its kind, and the ratio in the upper half.
-pub(crate) fn unpack(word: u64) -> Link
-    ensures { λ r. ⌜ r ≡ linkOf word ⌝ }
+fn leaf_role(e: Element) -> u8
+    ensures { λ c. ⌜ c ≡ roleOf (Leaf e) ⌝ }
 {
-    let join = join_of(word / 65536 % 256);
-    let ratio = (word / 4294967296) as u32;
-    let first = (word % 256) as usize;
-    let second = (word / 256 % 256) as usize;
-    Link {
-        join,
-        ratio,
-        first,
-        second,
+    match e {
+        Element::Resistor(_) => 1,
+        Element::Capacitor(_) => 0,
+        Element::Inductor(_) => 0,
+        Element::Input(_) => 2,
+        Element::Steady(_, _) => 1,
     }
 }
 
-fn leaf_word(e: Element) -> u64
-    ensures { λ r. ⌜ Says (Part.Leaf e) 0 r ⌝ }
+fn role_of(p: Part) -> u8
+    ensures { λ c. ⌜ c ≡ roleOf p ⌝ }
+{
+    match p {
+        Part::Blank => 4,
+        Part::Leaf(e) => leaf_role(e),
+        Part::Adaptor(_) => 3,
+    }
+}
+
+// How many reactive leaves there are.
+fn reactive_leaves(rows: [Row; ROWS], count: usize) -> usize
+    requires { ⌜ count ≤ rowLimit ⌝ }
+    ensures { λ q. ⌜ q ≡ rank rows 0 count ⌝ }
+{
+    let mut q = 0;
+    for i in 0..count {
+        let row = rows[i];
+        let part = row.part;
+        if role_of(part) == 0 {
+            q += 1;
+        }
+    }
+    q
+}
+
+// The rows' slots; `q` is the number of reactive leaves. `next` holds the next slot of each role.
+fn slots_of(rows: [Row; ROWS], count: usize, q: usize) -> [u8; ROWS]
+    requires { ⌜ (count ≤ rowLimit) × (q ≡ rank rows 0 count) ⌝ }
+    ensures { λ s. ⌜ ((j : ℕ) → j < count → getD s j 0 ≡ slotIn rows count j) ⌝ }
+{
+    let mut slots = [0u8; ROWS];
+    let mut next = [FLOOR as u8 + 1; ROLES];
+    next[0] = 0;
+    next[1] = q as u8;
+    next[2] = FLOOR as u8;
+    for i in 0..count {
+        let row = rows[i];
+        let part = row.part;
+        let role = wide(role_of(part));
+        let s = next[role];
+        slots[i] = s;
+        next[role] = s + 1;
+    }
+    slots
+}
+
+// Enters each adaptor's kind, its children's slots and its ratio at its place.
+fn lay_joints(
+    rows: [Row; ROWS],
+    prepared: [Prepared; ROWS],
+    count: usize,
+    slots: &[u8; ROWS],
+    joins: &mut [u8; JOINTS],
+    firsts: &mut [u8; JOINTS],
+    seconds: &mut [u8; JOINTS],
+    ratios: &mut [i64; JOINTS],
+)
+    requires { ⌜ ((r : Record) × (r .rows ≡ rows) × (r .count ≡ count) × Layable r prepared (now slots))
+        × Roomy (jointsOf (now joins) (now firsts) (now seconds) (now ratios)) ⌝ }
+    ensures { λ u. ⌜ ((r : Record) → r .rows ≡ rows → r .count ≡ count → Layable r prepared (now (slots .entry))
+        → Staged r (jointsOf (now (joins .exit)) (now (firsts .exit)) (now (seconds .exit)) (now (ratios .exit)))) ⌝ }
+{
+    for i in 0..count {
+        let row = rows[i];
+        let part = row.part;
+        match part {
+            Part::Blank => {}
+            Part::Leaf(_) => {}
+            Part::Adaptor(a) => {
+                let own = prepared[i];
+                let join = a.join;
+                let first = wide(a.first);
+                let second = wide(a.second);
+                let k = wide(slots[i]) - FLOOR - 1;
+                joins[k] = code_of(join);
+                firsts[k] = slots[first];
+                seconds[k] = slots[second];
+                ratios[k] = own.ratio as i64;
+            }
+        }
+    }
+}
+
+fn leaf_turn(e: Element) -> i64
+    ensures { λ t. ⌜ t ≡ turnOf (Leaf e) ⌝ }
 {
     match e {
         Element::Resistor(_) => 0,
         Element::Capacitor(_) => 0,
-        Element::Inductor(_) => 1,
+        Element::Inductor(_) => -1,
         Element::Input(_) => 0,
         Element::Steady(_, _) => 0,
     }
 }
 
-fn adaptor_word(a: Adaptor, g: u32) -> u64
-    ensures { λ r. ⌜ Says (Part.Adaptor a) g r ⌝ }
+// -1 of an inductor, which stores the opposite of the wave that reaches it; 0 of any other part.
+fn turn(p: Part) -> i64
+    ensures { λ t. ⌜ t ≡ turnOf p ⌝ }
 {
-    let join = a.join;
-    let children = (a.first as u64) + 256 * (a.second as u64);
-    children + 65536 * code_of(join) + 4294967296 * (g as u64)
-}
-
-fn pack(part: Part, g: u32) -> u64
-    ensures { λ r. ⌜ Says part g r ⌝ }
-{
-    match part {
+    match p {
         Part::Blank => 0,
-        Part::Leaf(e) => leaf_word(e),
-        Part::Adaptor(a) => adaptor_word(a, g),
+        Part::Leaf(e) => leaf_turn(e),
+        Part::Adaptor(_) => 0,
     }
 }
 
-fn words(rows: [Row; ROWS], prepared: [Prepared; ROWS]) -> [u64; ROWS]
-    ensures { λ r. ⌜ ((j : ℕ) → j < rowLimit → Says (rowIn rows j .part) (ratioIn prepared j) (getD r j 0)) ⌝ }
+// The parts' turns, each in its slot.
+fn turns_of(rows: [Row; ROWS], count: usize, slots: &[u8; ROWS]) -> [i64; ROWS]
+    requires { ⌜ ((r : Record) × Seated rows count (now slots) r) ⌝ }
+    ensures { λ t. ⌜ ((r : Record) → Seated rows count (now (slots .entry)) r
+        → (j : ℕ) → j < count → storedAt t (slotOf r j) ≡ turnOf (partAt r j)) ⌝ }
 {
-    let mut words = [0u64; ROWS];
-    for i in 0..ROWS {
-        let row = rows[i];
-        let part = row.part;
-        let own = prepared[i];
-        words[i] = pack(part, own.ratio);
-    }
-    words
-}
-
-fn is_adaptor(part: Part) -> bool
-    ensures { λ r. ⌜ r ≡ isAdaptor part ⌝ }
-{
-    match part {
-        Part::Blank => false,
-        Part::Leaf(_) => false,
-        Part::Adaptor(_) => true,
-    }
-}
-
-fn keeps_wave(part: Part) -> bool
-    ensures { λ r. ⌜ r ≡ isReactivePart part ⌝ }
-{
-    match part {
-        Part::Blank => false,
-        Part::Leaf(e) => e.is_reactive(),
-        Part::Adaptor(_) => false,
-    }
-}
-
-fn chosen(choice: Choice, part: Part) -> bool
-    ensures { λ r. ⌜ r ≡ chosenBy choice part ⌝ }
-{
-    match choice {
-        Choice::Adaptors => is_adaptor(part),
-        Choice::Leaves => part.is_leaf(),
-        Choice::Reactive => keeps_wave(part),
-    }
-}
-
-// The list with row i at its end, if it is wanted.
-fn entered(list: Listed, i: usize, wanted: bool) -> Listed
-    requires { ⌜ (i < rowLimit) × (list .length ≤ i) ⌝ }
-    ensures { λ r. ⌜ r ≡ enteredIf wanted i list ⌝ }
-{
-    if wanted {
-        let n = list.length;
-        let mut longer = list;
-        longer.rows[n] = i as u8;
-        longer.length = n + 1;
-        longer
-    } else {
-        list
-    }
-}
-
-fn rows_of(rows: [Row; ROWS], count: usize, choice: Choice) -> Listed
-    requires { ⌜ count ≤ rowLimit ⌝ }
-    ensures { λ r. ⌜ Ranked (λ j. chosenBy choice (rowIn rows j .part)) count (r .rows) (r .length) ⌝ }
-{
-    let mut list = Listed {
-        rows: [0u8; ROWS],
-        length: 0,
-    };
+    let mut turns = [0i64; ROWS];
     for i in 0..count {
         let row = rows[i];
         let part = row.part;
-        list = entered(list, i, chosen(choice, part));
+        let s = wide(slots[i]);
+        turns[s] = turn(part);
     }
-    list
-}
-
-// The row of the one input.
-fn input_row(rows: [Row; ROWS], count: usize) -> usize
-    requires { ⌜ (count ≤ rowLimit) × (0 < total (λ j. one (isInput (rowIn rows j .part))) count) ⌝ }
-    ensures { λ r. ⌜ (r < count) × (isInput (rowIn rows r .part) ≡ true) ⌝ }
-{
-    let mut i: usize = 0;
-    while i < count {
-        let row = rows[i];
-        let part = row.part;
-        if part.is_input() {
-            return i;
-        }
-        i += 1;
-    }
-    i
+    turns
 }
 
 // The row that a tap reads: at the top the two waves are the top's and the diode's.
@@ -239,44 +216,56 @@ fn tap_row(tap: u8, last: usize) -> usize
     if tap == TOP { last } else { wide(tap) }
 }
 
-// `prepared` are the record's rows after set-up.
-pub(crate) fn plan_of(r: Record, prepared: [Prepared; ROWS]) -> Plan
-    requires { ⌜ Ready r prepared ⌝ }
-    ensures { λ p. ⌜ Plans p r ⌝ }
+fn shape_of(r: Record, q: usize, slots: &[u8; ROWS]) -> Shape
+    requires { ⌜ ((prepared : List Prepared) × Layable r prepared (now slots)) ⌝ }
+    ensures { λ s. ⌜ (s .adaptors ≡ adaptorsOf r) × (s .reactive ≡ q) × (s .tap ≡ slotOf r (tapRow r))
+        × Mirrors (r .kind) (s .mirror) ⌝ }
+{
+    let count = wide(r.count);
+    let kind = r.kind;
+    let read = tap_row(r.tap, count - 1);
+    Shape {
+        adaptors: count / 2,
+        reactive: q,
+        tap: wide(slots[read]),
+        mirror: mirror(kind),
+    }
+}
+
+// Lays out all that the samples of a run read, and the rows' slots; `prepared` are the record's rows after set-up.
+pub(crate) fn lay_out(
+    r: Record,
+    prepared: [Prepared; ROWS],
+    slots: &mut [u8; ROWS],
+    joins: &mut [u8; JOINTS],
+    firsts: &mut [u8; JOINTS],
+    seconds: &mut [u8; JOINTS],
+    ratios: &mut [i64; JOINTS],
+    turns: &mut [i64; ROWS],
+    lines: &mut [Line; LINES],
+) -> Shape
+    requires { ⌜ Ready r prepared × Roomy (jointsOf (now joins) (now firsts) (now seconds) (now ratios)) ⌝ }
+    ensures fixed { λ shape. ⌜ Fixed (planOf shape (jointsOf (now (joins .exit)) (now (firsts .exit)) (now (seconds .exit)) (now (ratios .exit)))
+        (now (turns .exit)) (now (lines .exit))) r ⌝ }
+    ensures slots { λ shape. ⌜ Layable r prepared (now (slots .exit)) ⌝ }
 {
     let rows = r.rows;
-    let count = wide(r.count);
-    let words = words(rows, prepared);
-    let adaptors = rows_of(rows, count, Choice::Adaptors);
-    let leaves = rows_of(rows, count, Choice::Leaves);
-    let reactive = rows_of(rows, count, Choice::Reactive);
-    let last = count - 1;
-    let kind = r.kind;
-    let shape = Shape {
-        adaptors: adaptors.length,
-        leaves: leaves.length,
-        reactive: reactive.length,
-        input: input_row(rows, count),
-        last,
-        tap: tap_row(r.tap, last),
-        kind,
-    };
     let columns = r.columns;
-    let axes = lay_out(columns);
-    let width = wide(r.width);
-    let xs = axes.xs;
-    let ys = axes.ys;
-    let joints = adaptors.rows;
-    let ends = leaves.rows;
-    let stores = reactive.rows;
-    Plan {
-        words,
-        adaptors: joints,
-        leaves: ends,
-        reactive: stores,
-        width,
-        xs,
-        ys,
-        shape,
-    }
+    let count = wide(r.count);
+    let q = reactive_leaves(rows, count);
+    let given = slots_of(rows, count, q);
+    lay_joints(
+        rows,
+        prepared,
+        count,
+        &given,
+        joins,
+        firsts,
+        seconds,
+        ratios,
+    );
+    *turns = turns_of(rows, count, &given);
+    *lines = lines_of(columns, wide(r.width));
+    *slots = given;
+    shape_of(r, q, &given)
 }

@@ -1,8 +1,12 @@
 // The samples of a run, in order: the plan is laid out once, and each sample starts from the waves that the one before it stored.
+use crate::curve::LINES;
+use crate::curve::Line;
 use crate::leaf::part_sends;
 use crate::leaf::part_taken;
+use crate::plan::JOINTS;
 use crate::plan::Shape;
-use crate::plan::plan_of;
+use crate::plan::lay_out;
+use crate::plan::wide;
 use crate::sample::Outcome;
 use crate::sample::sample;
 use circuit::Answer;
@@ -15,46 +19,49 @@ use circuit::Row;
 use circuit::State;
 use circuit::Wave;
 ghost use mathlib.Core.Path.{_≡_};
-ghost use Prim.Native.Nat.{ℕ, _<_};
-ghost use lib.IntN.{pos};
+ghost use mathlib.Core.List.{List};
+ghost use Prim.Native.Nat.{_<_};
+ghost use lib.IntN.{ℤ};
 ghost use lib.ListN.{length, set};
-ghost use Rattle.whole.specs.Order.{Abs};
-ghost use Rattle.circuit.specs.Curve.{waveLimit};
-ghost use Rattle.circuit.specs.Sample.{rounded, partSends, storedAt};
-ghost use Rattle.circuit.specs.Record.{rowLimit, rowIn};
-ghost use Rattle.circuit.specs.Run.{freshWaves, call};
+ghost use Rattle.circuit.specs.Numbers.{passes};
+ghost use Rattle.circuit.specs.Run.{freshWaves, storedWavesRule, call};
 ghost use Rattle.circuit.specs.Promises.{Runs};
-ghost use Rattle.engine.specs.Plan.{partTaken};
-ghost use Rattle.engine.specs.Sample.{Fixed, LaidOut};
-ghost use Rattle.engine.specs.Play.{Written, Plays, Playable};
+ghost use Rattle.circuit.specs.declared.Record.{Record};
+ghost use Rattle.engine.specs.Plan.{jointsOf, planOf, Seated};
+ghost use Rattle.engine.specs.Sample.{Loaded, LaidOut};
+ghost use Rattle.engine.specs.Play.{Plays, Playable};
 
-// What each row sends from its stored wave; the input's row waits for a sample.
-pub(crate) fn load(rows: [Row; ROWS], state: State) -> [i64; ROWS]
-    ensures { λ r. ⌜ (length r ≡ rowLimit) × ((j : ℕ) → j < rowLimit → storedAt r j ≡ partSends rounded (pos 0) (storedAt (state .waves) j) (rowIn rows j .part)) ⌝ }
+// What each row sends from its stored wave, in its slot; the input's slot waits for a sample.
+pub(crate) fn load(rows: [Row; ROWS], state: State, count: usize, slots: &[u8; ROWS]) -> [i64; ROWS]
+    requires { ⌜ ((r : Record) × Seated rows count (now slots) r) ⌝ }
+    ensures { λ up. ⌜ ((r : Record) → Seated rows count (now (slots .entry)) r → storedWavesRule r (state .waves) ≡ passes
+        → Loaded r (state .waves) up) ⌝ }
 {
     let mut up = [0i64; ROWS];
-    for i in 0..ROWS {
+    for i in 0..count {
         let row = rows[i];
         let part = row.part;
-        let sent = part_sends(part, state.waves[i], 0);
+        let sent = part_sends(part, state.waves[i]);
         let next = sent.0;
-        up[i] = next;
+        let s = wide(slots[i]);
+        up[s] = next;
     }
     up
 }
 
 // The stored waves, out of what the rows send next.
-pub(crate) fn unload(rows: [Row; ROWS], up: [i64; ROWS]) -> State
-    requires { ⌜ ((j : ℕ) → j < rowLimit → Abs (partTaken (rowIn rows j .part) (storedAt up j)) waveLimit) ⌝ }
-    ensures { λ r. ⌜ (length (r .waves) ≡ rowLimit) × ((j : ℕ) → j < rowLimit → storedAt (r .waves) j ≡ partTaken (rowIn rows j .part) (storedAt up j)) ⌝ }
+pub(crate) fn unload(rows: [Row; ROWS], count: usize, slots: &[u8; ROWS], up: [i64; ROWS]) -> State
+    requires { ⌜ ((r : Record) × (ws : List ℤ) × Seated rows count (now slots) r × Loaded r ws up) ⌝ }
+    ensures { λ s. ⌜ ((r : Record) (ws : List ℤ) → Seated rows count (now (slots .entry)) r → Loaded r ws up → s .waves ≡ ws) ⌝ }
 {
     let mut state = State {
         waves: [0i32; ROWS],
     };
-    for i in 0..ROWS {
+    for i in 0..count {
         let row = rows[i];
         let part = row.part;
-        let taken = part_taken(part, Wave(up[i]));
+        let s = wide(slots[i]);
+        let taken = part_taken(part, Wave(up[s]));
         let stored = taken.0 as i32;
         state.waves[i] = stored;
     }
@@ -78,18 +85,22 @@ pub(crate) struct Stop {
 
 fn samples(
     shape: Shape,
-    words: &[u64; ROWS],
-    adaptors: &[u8; ROWS],
-    leaves: &[u8; ROWS],
-    reactive: &[u8; ROWS],
-    xs: &[i64],
-    ys: &[i64],
+    joins: &[u8; JOINTS],
+    firsts: &[u8; JOINTS],
+    seconds: &[u8; JOINTS],
+    ratios: &[i64; JOINTS],
+    turns: &[i64; ROWS],
+    lines: &[Line; LINES],
     up: &mut [i64; ROWS],
     input: &[i32],
     output: &mut [i32],
 ) -> Stop
-    requires { ⌜ LaidOut shape (now words) (now adaptors) (now leaves) (now reactive) (now xs) (now ys) (now up) freshWaves × (length (now input) ≡ length (now output)) ⌝ }
-    ensures { λ s. ⌜ Plays (Fixed shape (now (words .entry)) (now (adaptors .entry)) (now (leaves .entry)) (now (reactive .entry)) (now (xs .entry)) (now (ys .entry))) (now (up .entry)) (now (input .entry)) (Written (now (output .entry)) (now (output .exit))) s (now (up .exit)) ⌝ }
+    requires { ⌜ LaidOut (planOf shape (jointsOf (now joins) (now firsts) (now seconds) (now ratios)) (now turns) (now lines)) (now up) freshWaves
+        × (length (now input) ≡ length (now output)) ⌝ }
+    ensures { λ s. ⌜ Plays (λ vs. vs)
+        (planOf shape (jointsOf (now (joins .entry)) (now (firsts .entry)) (now (seconds .entry)) (now (ratios .entry))) (now (turns .entry))
+        (now (lines .entry)))
+        (now (up .entry)) (now (input .entry)) (now (output .entry)) s (now (up .exit)) (now (output .exit)) ⌝ }
 {
     let mut down = [0i64; ROWS];
     let mut i: usize = 0;
@@ -97,12 +108,12 @@ fn samples(
         let x = input[i];
         let outcome = sample(
             shape,
-            words,
-            adaptors,
-            leaves,
-            reactive,
-            xs,
-            ys,
+            joins,
+            firsts,
+            seconds,
+            ratios,
+            turns,
+            lines,
             up,
             &mut down,
             x,
@@ -141,31 +152,41 @@ pub(crate) fn play(
     requires { ⌜ Playable r prepared (state .waves) × (length (now input) ≡ length (now output)) ⌝ }
     ensures { λ p. ⌜ Runs (call r (state .waves) (now (input .entry)) (now (output .entry))) p (now (output .exit)) ⌝ }
 {
-    let plan = plan_of(r, prepared);
-    let shape = plan.shape;
-    let words = plan.words;
-    let adaptors = plan.adaptors;
-    let leaves = plan.leaves;
-    let reactive = plan.reactive;
-    let width = plan.width;
-    let xs = plan.xs;
-    let ys = plan.ys;
     let rows = r.rows;
-    let mut up = load(rows, state);
+    let count = wide(r.count);
+    let mut slots = [0u8; ROWS];
+    let mut joins = [0u8; JOINTS];
+    let mut firsts = [0u8; JOINTS];
+    let mut seconds = [0u8; JOINTS];
+    let mut ratios = [0i64; JOINTS];
+    let mut turns = [0i64; ROWS];
+    let mut lines = [[0i64; 4]; LINES];
+    let shape = lay_out(
+        r,
+        prepared,
+        &mut slots,
+        &mut joins,
+        &mut firsts,
+        &mut seconds,
+        &mut ratios,
+        &mut turns,
+        &mut lines,
+    );
+    let mut up = load(rows, state, count, &slots);
     let stop = samples(
         shape,
-        &words,
-        &adaptors,
-        &leaves,
-        &reactive,
-        &xs[..width],
-        &ys[..width],
+        &joins,
+        &firsts,
+        &seconds,
+        &ratios,
+        &turns,
+        &lines,
         &mut up,
         input,
         output,
     );
     let answer = stop.answer;
-    let after = unload(rows, up);
+    let after = unload(rows, count, &slots, up);
     Progress {
         answer,
         done: stop.done,

@@ -1,8 +1,12 @@
 // The samples of a raw run: each is read out of the bytes as its turn comes, and its output's bytes are put in their place.
 use crate::bytes::put;
 use crate::bytes::sample_at;
+use crate::curve::LINES;
+use crate::curve::Line;
+use crate::plan::JOINTS;
 use crate::plan::Shape;
-use crate::plan::plan_of;
+use crate::plan::lay_out;
+use crate::plan::wide;
 use crate::play::Stop;
 use crate::play::load;
 use crate::play::unload;
@@ -21,8 +25,9 @@ ghost use Prim.Native.Nat.{_/_, min};
 ghost use mathlib.Core.List.{_++_};
 ghost use Rattle.circuit.specs.Run.{freshWaves};
 ghost use Rattle.circuit.specs.Take.{sampleLength, outputLength, outputBytes};
-ghost use Rattle.engine.specs.Sample.{Fixed, LaidOut};
-ghost use Rattle.engine.specs.Play.{Written, Plays, Playable};
+ghost use Rattle.engine.specs.Plan.{jointsOf, planOf};
+ghost use Rattle.engine.specs.Sample.{LaidOut};
+ghost use Rattle.engine.specs.Play.{Plays, Playable};
 ghost use Rattle.engine.specs.Raw.{rawCall, fitting, RunsRaw};
 
 // How many samples are whole and have room for their outputs.
@@ -36,19 +41,23 @@ fn fitting(bytes: usize, room: usize) -> usize
 
 fn raw_samples(
     shape: Shape,
-    words: &[u64; ROWS],
-    adaptors: &[u8; ROWS],
-    leaves: &[u8; ROWS],
-    reactive: &[u8; ROWS],
-    xs: &[i64],
-    ys: &[i64],
+    joins: &[u8; JOINTS],
+    firsts: &[u8; JOINTS],
+    seconds: &[u8; JOINTS],
+    ratios: &[i64; JOINTS],
+    turns: &[i64; ROWS],
+    lines: &[Line; LINES],
     up: &mut [i64; ROWS],
     left: &[u8],
     more: &[u8],
     out: &mut [u8],
 ) -> Stop
-    requires { ⌜ LaidOut shape (now words) (now adaptors) (now leaves) (now reactive) (now xs) (now ys) (now up) freshWaves ⌝ }
-    ensures { λ s. ⌜ Plays (Fixed shape (now (words .entry)) (now (adaptors .entry)) (now (leaves .entry)) (now (reactive .entry)) (now (xs .entry)) (now (ys .entry))) (now (up .entry)) (fitting (now (left .entry) ++ now (more .entry)) (now (out .entry))) (λ vs. Written (now (out .entry)) (now (out .exit)) (outputBytes vs)) s (now (up .exit)) ⌝ }
+    requires { ⌜ LaidOut (planOf shape (jointsOf (now joins) (now firsts) (now seconds) (now ratios)) (now turns) (now lines)) (now up) freshWaves ⌝ }
+    ensures { λ s. ⌜ Plays outputBytes
+        (planOf shape (jointsOf (now (joins .entry)) (now (firsts .entry)) (now (seconds .entry)) (now (ratios .entry))) (now (turns .entry))
+        (now (lines .entry)))
+        (now (up .entry)) (fitting (now (left .entry) ++ now (more .entry)) (now (out .entry))) (now (out .entry)) s (now (up .exit))
+        (now (out .exit)) ⌝ }
 {
     let count = fitting(left.len() + more.len(), out.len());
     let mut down = [0i64; ROWS];
@@ -57,12 +66,12 @@ fn raw_samples(
         let x = sample_at(left, more, i);
         let outcome = sample(
             shape,
-            words,
-            adaptors,
-            leaves,
-            reactive,
-            xs,
-            ys,
+            joins,
+            firsts,
+            seconds,
+            ratios,
+            turns,
+            lines,
             up,
             &mut down,
             x,
@@ -102,32 +111,42 @@ pub(crate) fn play_raw(
     requires { ⌜ Playable r prepared (state .waves) ⌝ }
     ensures { λ p. ⌜ RunsRaw (rawCall r (state .waves) (now (left .entry) ++ now (more .entry)) (now (out .entry))) p (now (out .exit)) ⌝ }
 {
-    let plan = plan_of(r, prepared);
-    let shape = plan.shape;
-    let words = plan.words;
-    let adaptors = plan.adaptors;
-    let leaves = plan.leaves;
-    let reactive = plan.reactive;
-    let width = plan.width;
-    let xs = plan.xs;
-    let ys = plan.ys;
     let rows = r.rows;
-    let mut up = load(rows, state);
+    let count = wide(r.count);
+    let mut slots = [0u8; ROWS];
+    let mut joins = [0u8; JOINTS];
+    let mut firsts = [0u8; JOINTS];
+    let mut seconds = [0u8; JOINTS];
+    let mut ratios = [0i64; JOINTS];
+    let mut turns = [0i64; ROWS];
+    let mut lines = [[0i64; 4]; LINES];
+    let shape = lay_out(
+        r,
+        prepared,
+        &mut slots,
+        &mut joins,
+        &mut firsts,
+        &mut seconds,
+        &mut ratios,
+        &mut turns,
+        &mut lines,
+    );
+    let mut up = load(rows, state, count, &slots);
     let stop = raw_samples(
         shape,
-        &words,
-        &adaptors,
-        &leaves,
-        &reactive,
-        &xs[..width],
-        &ys[..width],
+        &joins,
+        &firsts,
+        &seconds,
+        &ratios,
+        &turns,
+        &lines,
         &mut up,
         left,
         more,
         out,
     );
     let answer = stop.answer;
-    let after = unload(rows, up);
+    let after = unload(rows, count, &slots, up);
     Progress {
         answer,
         done: stop.done,

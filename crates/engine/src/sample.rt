@@ -1,69 +1,104 @@
-// One sample: up the rows, off the diode, down the rows; then the limits, what the tap reads and what the leaves keep.
+// One sample: up the adaptors, off the diode, down the adaptors; then the limits, what the tap reads and what the leaves keep.
+use crate::curve::LINES;
+use crate::curve::Line;
 use crate::curve::reflect;
+use crate::plan::FLOOR;
+use crate::plan::JOINTS;
 use crate::plan::Shape;
-use crate::plan::wide;
 use crate::sweep::sweep_down;
 use crate::sweep::sweep_up;
 use circuit::Doubled;
 use circuit::ROWS;
+use circuit::WAVE_LIMIT;
 use circuit::Wave;
 use circuit::in_source_limit;
 ghost use mathlib.Core.Path.{_≡_};
-ghost use Prim.Native.Nat.{ℕ, _<_, _≤_};
+ghost use mathlib.Core.Bool.{false};
+ghost use Prim.Native.Nat.{ℕ, suc, _<_, _≤_};
 ghost use lib.IntN.{_+ℤ_};
-ghost use lib.ListN.{getD, set};
 ghost use Rattle.whole.specs.Order.{Abs};
-ghost use Rattle.circuit.specs.Record.{rowLimit};
+ghost use Rattle.circuit.specs.Counting.{some};
 ghost use Rattle.circuit.specs.Curve.{waveLimit};
 ghost use Rattle.circuit.specs.Sample.{storedAt};
-ghost use Rattle.engine.specs.Sample.{someOver, turnedBy, restored, Restores, lifted, Lifts, landed, Lands, Settles, Settled, LaidOut, Samples};
+ghost use Rattle.laws.specs.Accepted.{adaptorLimit};
+ghost use Rattle.engine.specs.Wave.{downLimit};
+ghost use Rattle.engine.specs.Plan.{floor, jointsOf, planOf};
+ghost use Rattle.engine.specs.Sweep.{Modest};
+ghost use Rattle.engine.specs.Sample.{overAt, leafOver, Calm, Turn, turnedBy, Restored, Restores, LaidOut, Samples};
 
-// Rule 15, of the waves that arrive at the first `m` of the leaves.
-fn any_over(leaves: &[u8; ROWS], m: usize, down: &[i64; ROWS]) -> bool
-    requires { ⌜ (m ≤ rowLimit) × ((k : ℕ) → k < m → getD (now leaves) k 0 < rowLimit) ⌝ }
-    ensures { λ b. ⌜ b ≡ someOver (now (leaves .entry)) m (now (down .entry)) ⌝ }
+// What is gathered so far, and one wave with the limit added. Of a wave within its limit that is from 0 to 2^27: a larger wave, and a negative sum,
+// has a bit from 2^27 on.
+fn gathered(all: i64, wave: i64) -> i64
+    requires { ⌜ Abs wave (downLimit adaptorLimit) ⌝ }
+    ensures { λ r. ⌜ (Calm r → Calm all × Abs wave waveLimit) ⌝ }
 {
-    for k in 0..m {
-        let row = wide(leaves[k]);
-        if !Wave(down[row]).in_limit() {
+    all | (wave + WAVE_LIMIT as i64)
+}
+
+fn is_wild(all: i64) -> bool
+    ensures { λ r. ⌜ (r ≡ false → Calm all) ⌝ }
+{
+    (all < 0) | (2 * (WAVE_LIMIT as i64) <= all)
+}
+
+// Whether what is gathered, or some wave that arrives at the first `n` slots, may be over its limit: where this says no, none is.
+fn may_be_over(first: i64, n: usize, down: &[i64; ROWS]) -> bool
+    requires { ⌜ (n ≤ suc floor) × Modest (now down) ⌝ }
+    ensures { λ r. ⌜ (r ≡ false → Calm first × ((s : ℕ) → s < n → Abs (storedAt (now (down .entry)) s) waveLimit)) ⌝ }
+{
+    let mut all = first;
+    for s in 0..n {
+        all = gathered(all, down[s]);
+    }
+    is_wild(all)
+}
+
+// Rule 15, of the waves that arrive at the first `n` slots.
+fn any_over(n: usize, down: &[i64; ROWS]) -> bool
+    requires { ⌜ n ≤ floor ⌝ }
+    ensures { λ b. ⌜ b ≡ some (overAt (now (down .entry))) n ⌝ }
+{
+    for s in 0..n {
+        if !Wave(down[s]).in_limit() {
             return true;
         }
     }
     false
 }
 
-// A capacitor keeps the wave that reaches it, an inductor its negative.
-fn turned(word: u64, a: Wave) -> Wave
-    requires { ⌜ Abs (a .0) waveLimit ⌝ }
-    ensures { λ r. ⌜ r .0 ≡ turnedBy word (a .0) ⌝ }
+// Rule 15, of the waves that arrive at the leaves: `n` of them are no input. All are looked at together first, where there are many also at the
+// slots that no leaf has: a number of turns that is known beforehand is quicker than counting.
+fn leaf_over(n: usize, down: &[i64; ROWS]) -> bool
+    requires { ⌜ (n ≤ floor) × Modest (now down) ⌝ }
+    ensures { λ b. ⌜ b ≡ leafOver n (now (down .entry)) ⌝ }
 {
-    if word == 0 { a } else { Wave(-a.0) }
+    if 2 < n {
+        if !may_be_over(0, FLOOR + 1, down) {
+            return false;
+        }
+    } else {
+        if !may_be_over(gathered(0, down[FLOOR]), n, down) {
+            return false;
+        }
+    }
+    any_over(n, down) | !Wave(down[FLOOR]).in_limit()
 }
 
-// The row sends this wave with the next sample.
-fn keep(up: &mut [i64; ROWS], row: usize, wave: Wave)
-    requires { ⌜ row < rowLimit ⌝ }
-    ensures { λ r. ⌜ now (up .exit) ≡ set (now (up .entry)) row (wave .0) ⌝ }
+// A capacitor keeps the wave that reaches it, an inductor its opposite: with -1 all bits are turned, and one is added.
+fn turned(turn: i64, a: i64) -> i64
+    requires { ⌜ Turn turn × Abs a waveLimit ⌝ }
+    ensures { λ r. ⌜ r ≡ turnedBy turn a ⌝ }
 {
-    let next = wave.0;
-    up[row] = next;
+    (a ^ turn) - turn
 }
 
-// The first `q` reactive rows keep their waves.
-fn store(
-    words: &[u64; ROWS],
-    reactive: &[u8; ROWS],
-    q: usize,
-    down: &[i64; ROWS],
-    up: &mut [i64; ROWS],
-)
-    requires { ⌜ Restores (now words) (now reactive) q (now down) ⌝ }
-    ensures { λ r. ⌜ now (up .exit) ≡ restored (now (words .entry)) (now (reactive .entry)) (now (down .entry)) q (now (up .entry)) ⌝ }
+// The first `q` slots, the reactive leaves', keep their waves to send them with the next sample.
+fn store(turns: &[i64; ROWS], q: usize, down: &[i64; ROWS], up: &mut [i64; ROWS])
+    requires { ⌜ Restores (now turns) q (now up) (now down) ⌝ }
+    ensures { λ r. ⌜ Restored (now (turns .entry)) (now (down .entry)) q (now (up .entry)) (now (up .exit)) ⌝ }
 {
-    for k in 0..q {
-        let row = wide(reactive[k]);
-        let kept = turned(words[row], Wave(down[row]));
-        keep(up, row, kept);
+    for s in 0..q {
+        up[s] = turned(turns[s], down[s]);
     }
 }
 
@@ -82,90 +117,42 @@ pub(crate) enum Outcome {
     Finished(Doubled),
 }
 
-// The wave that rises to the top, with the sample at the input's row.
-fn rise(
-    shape: Shape,
-    words: &[u64; ROWS],
-    adaptors: &[u8; ROWS],
-    up: &mut [i64; ROWS],
-    x: i32,
-) -> Wave
-    requires { ⌜ Lifts shape (now words) (now adaptors) (now up) x ⌝ }
-    ensures { λ a. ⌜ (now (up .exit) ≡ lifted shape (now (words .entry)) (now (adaptors .entry)) (now (up .entry)) x) × (a .0 ≡ storedAt (now (up .exit)) (shape .last)) ⌝ }
-{
-    let input = shape.input;
-    let last = shape.last;
-    let wave = x as i64;
-    up[input] = wave;
-    sweep_up(words, adaptors, shape.adaptors, up);
-    Wave(up[last])
-}
-
-// The diode's answer, at the top's row, comes down to the leaves.
-fn land(
-    shape: Shape,
-    words: &[u64; ROWS],
-    adaptors: &[u8; ROWS],
-    up: &[i64; ROWS],
-    down: &mut [i64; ROWS],
-    answer: Wave,
-)
-    requires { ⌜ Lands shape (now words) (now adaptors) (now up) (now down) (answer .0) ⌝ }
-    ensures { λ r. ⌜ now (down .exit) ≡ landed shape (now (words .entry)) (now (adaptors .entry)) (now (up .entry)) (now (down .entry)) (answer .0) ⌝ }
-{
-    let last = shape.last;
-    let top = answer.0;
-    down[last] = top;
-    sweep_down(words, adaptors, shape.adaptors, up, down);
-}
-
-// Rule 15 at the leaves comes before anything is stored. The tap reads what its row has sent, not what it sends next.
-fn settle(
-    shape: Shape,
-    words: &[u64; ROWS],
-    leaves: &[u8; ROWS],
-    reactive: &[u8; ROWS],
-    up: &mut [i64; ROWS],
-    down: &[i64; ROWS],
-) -> Outcome
-    requires { ⌜ Settles shape (now words) (now leaves) (now reactive) (now up) (now down) ⌝ }
-    ensures { λ o. ⌜ Settled shape (now (words .entry)) (now (leaves .entry)) (now (reactive .entry)) (now (up .entry)) (now (down .entry)) o (now (up .exit)) ⌝ }
-{
-    let tap = shape.tap;
-    let sent = Wave(up[tap]);
-    if any_over(leaves, shape.leaves, down) {
-        return Outcome::Over;
-    }
-    let output = tapped(sent, Wave(down[tap]));
-    store(words, reactive, shape.reactive, down, up);
-    Outcome::Finished(output)
-}
-
 // Between samples `up` holds what every leaf but the input sends next; a refused sample keeps that. `down` is room for the sweep down.
 pub(crate) fn sample(
     shape: Shape,
-    words: &[u64; ROWS],
-    adaptors: &[u8; ROWS],
-    leaves: &[u8; ROWS],
-    reactive: &[u8; ROWS],
-    xs: &[i64],
-    ys: &[i64],
+    joins: &[u8; JOINTS],
+    firsts: &[u8; JOINTS],
+    seconds: &[u8; JOINTS],
+    ratios: &[i64; JOINTS],
+    turns: &[i64; ROWS],
+    lines: &[Line; LINES],
     up: &mut [i64; ROWS],
     down: &mut [i64; ROWS],
     x: i32,
 ) -> Outcome
-    requires { ⌜ LaidOut shape (now words) (now adaptors) (now leaves) (now reactive) (now xs) (now ys) (now up) (now down) ⌝ }
-    ensures { λ o. ⌜ Samples shape (now (words .entry)) (now (adaptors .entry)) (now (leaves .entry)) (now (reactive .entry)) (now (xs .entry)) (now (ys .entry)) (now (up .entry)) x o (now (up .exit)) (now (down .exit)) ⌝ }
+    requires { ⌜ LaidOut (planOf shape (jointsOf (now joins) (now firsts) (now seconds) (now ratios)) (now turns) (now lines)) (now up) (now down) ⌝ }
+    ensures { λ o. ⌜ Samples (planOf shape (jointsOf (now (joins .entry)) (now (firsts .entry)) (now (seconds .entry)) (now (ratios .entry))) (now (turns .entry)) (now (lines .entry))) (now (up .entry)) x o (now (up .exit)) (now (down .exit)) ⌝ }
 {
     if !in_source_limit(x) {
         return Outcome::Loud;
     }
-    let risen = rise(shape, words, adaptors, up, x);
+    let n = shape.adaptors;
+    let tap = shape.tap;
+    let wave = x as i64;
+    up[FLOOR] = wave;
+    sweep_up(joins, firsts, seconds, ratios, n, up);
+    let risen = Wave(up[FLOOR + n]);
     if !risen.in_limit() {
         return Outcome::Over;
     }
-    let kind = shape.kind;
-    let answer = reflect(kind, xs, ys, risen);
-    land(shape, words, adaptors, up, down, answer);
-    settle(shape, words, leaves, reactive, up, down)
+    let answer = reflect(shape.mirror, lines, risen);
+    let top = answer.0;
+    down[FLOOR + n] = top;
+    sweep_down(joins, firsts, seconds, ratios, n, up, down);
+    if leaf_over(n, down) {
+        return Outcome::Over;
+    }
+    let output = tapped(Wave(up[tap]), Wave(down[tap]));
+    store(turns, shape.reactive, down, up);
+    Outcome::Finished(output)
 }

@@ -1,57 +1,63 @@
-// The sweeps: waves up the rows from the lowest adaptor to the top, and down again. A row's wave stands at the row's number.
-use crate::plan::unpack;
+// The sweeps: waves up from the lowest adaptor to the top, and down again. Adaptor k has its wave at slot FLOOR + 1 + k.
+use crate::plan::FLOOR;
+use crate::plan::JOINTS;
+use crate::plan::join_of;
 use crate::plan::wide;
 use crate::wave::sends_down;
 use crate::wave::sends_up;
 use circuit::ROWS;
 use circuit::Wave;
-ghost use mathlib.Core.Path.{_≡_};
-ghost use Prim.Native.Nat.{_≤_};
-ghost use Rattle.circuit.specs.Record.{rowLimit};
-ghost use Rattle.engine.specs.Sweep.{climbed, Climbs, dropped, Drops};
+ghost use Prim.Native.Nat.{suc, _+_};
+ghost use Rattle.engine.specs.Plan.{floor, jointsOf};
+ghost use Rattle.engine.specs.Sweep.{Climbs, Risen, Drops, Reached};
 
-pub(crate) fn sweep_up(words: &[u64; ROWS], adaptors: &[u8; ROWS], n: usize, up: &mut [i64; ROWS])
-    requires { ⌜ Climbs (now words) (now adaptors) n (now up) ⌝ }
-    ensures { λ r. ⌜ now (up .exit) ≡ climbed (now (words .entry)) (now (adaptors .entry)) n (now (up .entry)) ⌝ }
+pub(crate) fn sweep_up(
+    joins: &[u8; JOINTS],
+    firsts: &[u8; JOINTS],
+    seconds: &[u8; JOINTS],
+    ratios: &[i64; JOINTS],
+    n: usize,
+    up: &mut [i64; ROWS],
+)
+    requires { ⌜ Climbs (jointsOf (now joins) (now firsts) (now seconds) (now ratios)) n (now up) ⌝ }
+    ensures { λ r. ⌜ ((c : Climbs (jointsOf (now (joins .entry)) (now (firsts .entry)) (now (seconds .entry)) (now (ratios .entry))) n (now (up .entry))) → Risen (c .swept .circuit) (c .swept .wave) (suc floor + n) (now (up .exit))) ⌝ }
 {
     for k in 0..n {
-        let row = wide(adaptors[k]);
-        let l = unpack(words[row]);
-        let join = l.join;
-        let first = l.first;
-        let second = l.second;
-        let u = sends_up(join, l.ratio, Wave(up[first]), Wave(up[second]));
+        let join = join_of(joins[k]);
+        let first = wide(firsts[k]);
+        let second = wide(seconds[k]);
+        let u = sends_up(join, ratios[k], Wave(up[first]), Wave(up[second]));
         let sent = u.0;
-        up[row] = sent;
+        up[FLOOR + 1 + k] = sent;
     }
 }
 
-// `down` holds the wave that reaches the top, at the top's row.
+// `down` holds the wave that reaches the top, in the top's slot. The loop counts by slots, not by places, since that makes it quicker.
 pub(crate) fn sweep_down(
-    words: &[u64; ROWS],
-    adaptors: &[u8; ROWS],
+    joins: &[u8; JOINTS],
+    firsts: &[u8; JOINTS],
+    seconds: &[u8; JOINTS],
+    ratios: &[i64; JOINTS],
     n: usize,
     up: &[i64; ROWS],
     down: &mut [i64; ROWS],
 )
-    requires { ⌜ (n ≤ rowLimit) × Drops (now words) (now adaptors) (now up) n (now down) ⌝ }
-    ensures { λ r. ⌜ now (down .exit) ≡ dropped (now (words .entry)) (now (adaptors .entry)) (now (up .entry)) n (now (down .entry)) ⌝ }
+    requires { ⌜ Drops (jointsOf (now joins) (now firsts) (now seconds) (now ratios)) n (now up) (now down) ⌝ }
+    ensures { λ r. ⌜ ((c : Drops (jointsOf (now (joins .entry)) (now (firsts .entry)) (now (seconds .entry)) (now (ratios .entry))) n (now (up .entry)) (now (down .entry))) → Reached (c .swept .circuit) (c .swept .wave) (now (down .entry)) (now (down .exit))) ⌝ }
 {
-    let mut k = n;
-    while 0 < k {
-        k -= 1;
-        let row = wide(adaptors[k]);
-        let l = unpack(words[row]);
-        let join = l.join;
-        let first = l.first;
-        let second = l.second;
+    let mut slot = FLOOR + n;
+    while FLOOR < slot {
+        let k = slot - FLOOR - 1;
+        let join = join_of(joins[k]);
+        let first = wide(firsts[k]);
+        let second = wide(seconds[k]);
         let b = sends_down(
             join,
-            l.ratio,
+            ratios[k],
             Wave(up[first]),
             Wave(up[second]),
-            Wave(up[row]),
-            Wave(down[row]),
+            Wave(up[slot]),
+            Wave(down[slot]),
         );
         let b1 = b.first;
         let b2 = b.second;
@@ -59,5 +65,6 @@ pub(crate) fn sweep_down(
         let to_second = b2.0;
         down[first] = to_first;
         down[second] = to_second;
+        slot -= 1;
     }
 }

@@ -1,12 +1,11 @@
-// An adaptor: the waves that it sends up and down. Waves are whole microvolts, a ratio is in parts of 2^24.
+// An adaptor: the waves that it sends up and down. Waves are whole microvolts, a ratio is in parts of 2^24 and in the width of a wave.
 use circuit::Join;
 use circuit::Wave;
 ghost use mathlib.Core.Path.{_≡_};
-ghost use Prim.Native.Nat.{_<_};
+ghost use lib.IntN.{natAbs};
 ghost use Rattle.whole.specs.Order.{Abs};
-ghost use Rattle.circuit.specs.SetUp.{parts};
 ghost use Rattle.circuit.specs.Sample.{h, rounded, sendsUp, sendsFirst, sendsSecond};
-ghost use Rattle.engine.specs.Wave.{sumLimit, Below, Beneath};
+ghost use Rattle.engine.specs.Wave.{sumLimit, Share, Below, Beneath};
 
 // The waves that an adaptor sends its two children.
 pub(crate) struct SentDown {
@@ -15,17 +14,16 @@ pub(crate) struct SentDown {
 }
 
 // g·t / 2^24, rounded down.
-fn part(g: u32, t: i64) -> i64
-    requires { ⌜ (g < parts) × Abs t sumLimit ⌝ }
-    ensures { λ r. ⌜ r ≡ h g t ⌝ }
+fn part(g: i64, t: i64) -> i64
+    requires { ⌜ Share g × Abs t sumLimit ⌝ }
+    ensures { λ r. ⌜ r ≡ h (natAbs g) t ⌝ }
 {
-    let wide = g as i64;
-    (wide * t) >> 24
+    (g * t) >> 24
 }
 
-pub(crate) fn sends_up(join: Join, g: u32, a1: Wave, a2: Wave) -> Wave
+pub(crate) fn sends_up(join: Join, g: i64, a1: Wave, a2: Wave) -> Wave
     requires { ⌜ Below g (a1 .0) (a2 .0) ⌝ }
-    ensures { λ r. ⌜ r .0 ≡ sendsUp rounded join g (a1 .0) (a2 .0) ⌝ }
+    ensures { λ r. ⌜ r .0 ≡ sendsUp rounded join (natAbs g) (a1 .0) (a2 .0) ⌝ }
 {
     match join {
         Join::Series => Wave(-(a1.0 + a2.0)),
@@ -34,14 +32,14 @@ pub(crate) fn sends_up(join: Join, g: u32, a1: Wave, a2: Wave) -> Wave
 }
 
 // With a3 from above; u is what the adaptor has sent up.
-pub(crate) fn sends_down(join: Join, g: u32, a1: Wave, a2: Wave, u: Wave, a3: Wave) -> SentDown
+pub(crate) fn sends_down(join: Join, g: i64, a1: Wave, a2: Wave, u: Wave, a3: Wave) -> SentDown
     requires { ⌜ Beneath join g (a1 .0) (a2 .0) (u .0) (a3 .0) ⌝ }
-    ensures first { λ r. ⌜ r .first .0 ≡ sendsFirst rounded join g (a1 .0) (a2 .0) (a3 .0) ⌝ }
-    ensures second { λ r. ⌜ r .second .0 ≡ sendsSecond rounded join g (a1 .0) (a2 .0) (a3 .0) ⌝ }
+    ensures first { λ r. ⌜ r .first .0 ≡ sendsFirst rounded join (natAbs g) (a1 .0) (a2 .0) (a3 .0) ⌝ }
+    ensures second { λ r. ⌜ r .second .0 ≡ sendsSecond rounded join (natAbs g) (a1 .0) (a2 .0) (a3 .0) ⌝ }
 {
     match join {
         Join::Series => {
-            let b1 = a1.0 - part(g, a1.0 + a2.0 + a3.0);
+            let b1 = a1.0 - part(g, a3.0 - u.0);
             let first = Wave(b1);
             let second = Wave(-(a3.0 + b1));
             SentDown { first, second }

@@ -7,7 +7,7 @@ use lib.Dec.{lit<}
 use borrow.Author.Needs.{needs}
 use borrow.Author.Tests.{ne-eqb}
 use Rattle.circuit.specs.Numbers.{handed, rule, judge, unless}
-use Rattle.circuit.specs.Run.{Call, charged, chargedRules, lengthsRule, runRules, Ran, ran, turnedAway, call}
+use Rattle.circuit.specs.Run.{Call, charged, chargedRules, lengthsRule, runRules, ran, turnedAway, call}
 use Rattle.circuit.specs.Promises.{Runs}
 use Rattle.circuit.specs.declared.Answer.{Answer}
 use Rattle.circuit.specs.declared.Answer.the-variants.{Lengths}
@@ -16,7 +16,6 @@ use Rattle.circuit.specs.declared.State.{State}
 use Rattle.laws.proofs.Judging.{judge-fail, else-next, else-first}
 use Rattle.laws.proofs.Running.{run-judged, ran-refused}
 use Rattle.laws.proofs.Sizes.{sized}
-use Rattle.engine.proofs.Holding.{state-sized}
 use Rattle.engine.proofs.Loading.{playable}
 use Rattle.engine.proofs.run.Statement.{statement}
 use Rattle.engine.proofs.run.Tie as tie
@@ -29,12 +28,7 @@ away : (k : Call) (a : Answer) (s : State) {p : Progress} → p ≡ record { ans
     → handed a ≡ judge runRules k → 0 < handed a .number → Runs k p (k .output)
 away k a s told same j l =
     let e : ran k ≡ turnedAway k (judge runRules k) = ran-refused k (rw j at l) in
-    record {
-      number = ap (λ (p : Progress). handed (p .answer)) told ∙ j ∙ sym (ap (λ (t : Ran). t .handedBack) e);
-      samples = ap (λ (p : Progress). p .done) told ∙ sym (ap (λ (t : Ran). t .samples) e);
-      waves = ap (λ (p : Progress). p .state .waves) told ∙ same ∙ sym (ap (λ (t : Ran). t .waves) e);
-      output = sym (ap (λ (t : Ran). t .output) e);
-    }
+    record { number = rw (told, e) j; samples = rw (told, e) refl; waves = rw (told, e) same; output = rw e refl }
 
 returns : tie.Need-returns
 returns c =
@@ -47,16 +41,16 @@ returns c =
 
 -- 4 to 12 do not refuse it
 cleared : (c : tie.Else1) → judge chargedRules (charged (called (c .before .before .before))) .number ≡ 0
-cleared c = ap (λ n. n .number) (sym (c .before .before .check .ensures .number)) ∙ sym (c .before .number .ensures) ∙ c .if1 .left
+cleared c = rw (← c .before .before .check .ensures .number) (sym (c .before .number .ensures) ∙ c .if1 .left)
 
 returns-2 : tie.Need-returns-2
 unfolding handed lengthsRule
 returns-2 c =
     let passed = c .before .before in
     let s = passed .before .before .before in
+    let differ = judge-fail (rule 13 lengthsRule) [] (called s) 0 (ap (λ b. unless b 0) (ne-eqb _ _ (c .before .if2 .taken))) in
     away (called s) Lengths (s .args .state) (c .turned-away2 .ensures) refl
-    (sym (run-judged (called s) ∙ else-next _ _ (cleared passed) ∙ judge-fail (rule 13 lengthsRule) [] (called s) 0 (ap (λ b. unless b 0) (ne-eqb _ _ (c .before .if2 .taken)))))
-    (lit< tt)
+    (sym (run-judged (called s) ∙ else-next _ _ (cleared passed) ∙ differ)) (lit< tt)
 
 play-requires : tie.Need-play-requires
 play-requires c κs =
@@ -64,20 +58,12 @@ play-requires c κs =
     let passed = even .before in
     let checked = passed .before .before in
     let s = checked .before in (
-      playable (charged (called s)) _ (sized (s .args .r) _ (s .good .0)) (state-sized (s .args .state) _ (s .good .1 .0)) (checked .check .ensures .rows) (cleared passed),
+      playable (charged (called s)) _ (sized (s .args .r) _ (s .good .0)) (checked .check .ensures .rows) (cleared passed),
       even .if2 .left,
     )
 
 pub run-spec : {M : Type 1} → statement M
 run-spec =
     tie.close
-    (tie.spec
-    (λ c κs. search needs)
-    (λ c κs. search needs)
-    (λ c κs. search needs)
-    returns
-    (λ c κs. search needs)
-    returns-2
-    play-requires
-    (λ c. search needs)
-    (λ c. search needs))
+    (tie.spec (λ c κs. search needs) (λ c κs. search needs) (λ c κs. search needs) returns (λ c κs. search needs) returns-2 play-requires
+    (λ c. search needs) (λ c. search needs))

@@ -1,15 +1,13 @@
 -- `run_raw` meets its contract: a call that 4 to 12 refuse is turned away, and any other is played.
 use Prim.Native.Nat.{_<_}
 use native.Mathlib.Omega.{arith}
-use mathlib.Core.Path.{_≡_, sym, ap, _∙_}
+use mathlib.Core.Path.{_≡_, refl, sym, _∙_}
 use mathlib.Core.List.{_++_}
 use borrow.Author.Needs.{needs}
 use Rattle.circuit.specs.Numbers.{handed, judge}
 use Rattle.circuit.specs.Run.{chargedRules}
-use Rattle.circuit.specs.declared.Progress.{Progress}
 use Rattle.laws.proofs.Sizes.{sized}
-use Rattle.engine.specs.Raw.{RawCall, RanRaw, rawCall, rawCharged, rawTurnedAway, ranRaw}
-use Rattle.engine.proofs.Holding.{state-sized}
+use Rattle.engine.specs.Raw.{RawCall, rawCall, rawCharged, rawTurnedAway, ranRaw}
 use Rattle.engine.proofs.Loading.{playable}
 use Rattle.engine.proofs.RawRuns.{ran-raw-refused}
 use Rattle.engine.proofs.run_raw.Statement.{statement}
@@ -18,38 +16,29 @@ use Rattle.engine.proofs.run_raw.Tie as tie
 abbrev called : tie.Start → RawCall
 called c = rawCall (c .args .r) (c .args .state .waves) (c .args .left .now ++ c .args .more .now) (c .args .out .now)
 
+abbrev entered : tie.After-check → tie.Start
+entered c = c .before .before .before .before
+
 returns : tie.Need-returns
 returns c =
     let checked = c .before .before .before in
-    let s = checked .before .before .before .before in
-    let k = called s in
+    let k = called (entered checked) in
     let told = c .turned-away .ensures in
     let j = checked .check .ensures .number in
     let l : 0 < handed (checked .check .result .answer) .number = omega (arith, c .before .before .number .ensures, c .before .if1 .taken) in
     let e : ranRaw k ≡ rawTurnedAway k (judge chargedRules (rawCharged k)) = ran-raw-refused k (rw j at l) in
-    record {
-      number = ap (λ (p : Progress). handed (p .answer)) told ∙ j ∙ sym (ap (λ (t : RanRaw). t .handedBack) e);
-      samples = ap (λ (p : Progress). p .done) told ∙ sym (ap (λ (t : RanRaw). t .samples) e);
-      waves = ap (λ (p : Progress). p .state .waves) told ∙ sym (ap (λ (t : RanRaw). t .waves) e);
-      room = sym (ap (λ (t : RanRaw). t .room) e);
-    }
+    record { number = rw (told, e) j; samples = rw (told, e) refl; waves = rw (told, e) refl; room = rw e refl }
 
 play-raw-requires : tie.Need-play-raw-requires
 play-raw-requires c κs =
     let passed = c .before .before in
     let checked = passed .before .before in
-    let s = checked .before .before .before .before in
-    playable (rawCharged (called s)) _ (sized (s .args .r) _ (s .good .0)) (state-sized (s .args .state) _ (s .good .1 .0)) (checked .check .ensures .rows)
-    (ap (λ n. n .number) (sym (checked .check .ensures .number)) ∙ sym (passed .before .number .ensures) ∙ passed .if1 .left)
+    let s = entered checked in
+    playable (rawCharged (called s)) _ (sized (s .args .r) _ (s .good .0)) (checked .check .ensures .rows)
+    (rw (← checked .check .ensures .number) (sym (passed .before .number .ensures) ∙ passed .if1 .left))
 
 pub run-raw-spec : {M : Type 1} → statement M
 run-raw-spec =
     tie.close
-    (tie.spec
-    (λ c κs. search needs)
-    (λ c κs. search needs)
-    (λ c κs. search needs)
-    returns
-    play-raw-requires
-    (λ c. search needs)
+    (tie.spec (λ c κs. search needs) (λ c κs. search needs) (λ c κs. search needs) returns play-raw-requires (λ c. search needs)
     (λ c. search needs))

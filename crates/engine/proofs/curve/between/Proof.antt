@@ -1,29 +1,44 @@
--- `curve::between` hands `straight` the rise and the run of two neighbouring columns.
-use mathlib.Core.Path.{_∙_}
-use Rattle.engine.proofs.Limits.{difference-fits, difference-reads, limit-reads, returned}
-use Rattle.engine.proofs.Slope.{spans-sloped}
+-- `curve::between` hands `through` the rise and the run from one column to the next, which are exact.
+use mathlib.Core.Path.{_≡_, ap, _∙_}
+use borrow.Author.Needs.{needs}
+use lib.IntN.{ℤ, _-ℤ_}
+use mir.Syntax.{w64}
+use mir.Val.{toZ, ofZ}
+use Rattle.circuit.specs.declared.Column.{Column}
+use Rattle.engine.specs.Curve.{lineBy}
+use Rattle.engine.proofs.Wide.{wide, widened, wide-same, apart-fits, apart-same}
 use Rattle.engine.proofs.curve.between.Statement.{statement}
 use Rattle.engine.proofs.curve.between.Tie as tie
 
-sub-straight : tie.Need-sub-straight
-sub-straight c = difference-fits (c .pre .reaching) (c .pre .high)
+abbrev at-second : tie.After-struct-told2 → tie.Start
+at-second c = c .before .before .before .before
 
-sub-straight-2 : tie.Need-sub-straight-2
-sub-straight-2 c = difference-fits (c .pre .to) (c .pre .from)
+module _ (c : tie.After-struct-told4) where
+  abbrev start : tie.Start
+  start = at-second (c .before .before .before .before)
 
-straight-requires : tie.Need-straight-requires
-straight-requires c κs =
-    let p = c .pre in
-    rw (difference-reads (p .reaching) (p .high), difference-reads (p .to) (p .from), limit-reads (p .from), limit-reads (p .high), limit-reads (p .sent))
-    (spans-sloped p)
+  abbrev o : Column
+  o = start .args .o
+
+  abbrev n : Column
+  n = start .args .n
+
+  edge : wide (n .x) ≡ n .x
+  edge = search (needs, wide-same)
+
+  rise : toZ w64 (ofZ w64 (wide (n .y) -ℤ wide (o .y))) ≡ n .y -ℤ o .y
+  rise = search (needs, apart-same)
+
+  run : toZ w64 (ofZ w64 (wide (n .x) -ℤ wide (o .x))) ≡ n .x -ℤ o .x
+  run = search (needs, apart-same)
 
 returns : tie.Need-returns
 returns c =
-    let p = c .before .pre in
-    let line =
-    rw (difference-reads (p .reaching) (p .high), difference-reads (p .to) (p .from), limit-reads (p .from), limit-reads (p .high), limit-reads (p .sent))
-    at (c .straight .ensures) in
-    returned (c .straight .result) (c .straight .ok) ∙ line
+    let at = c .before in
+    c .through .ensures ∙ rw (rise at, run at) (ap (λ (e : ℤ). lineBy e (o at) (n at .y -ℤ o at .y) (n at .x -ℤ o at .x)) (edge at))
 
 pub between-spec : {M : Type 1} → statement M
-between-spec = tie.close (tie.spec sub-straight sub-straight-2 straight-requires returns)
+between-spec =
+    tie.close
+    (tie.spec (λ c. search (needs, widened)) (λ c. search (needs, widened)) (λ c. search (needs, widened)) (λ c. search (needs, apart-fits))
+    (λ c. search (needs, widened)) (λ c. search (needs, apart-fits)) (λ c κs. rw (rise c, run c) (start c .pre)) returns)

@@ -1,45 +1,72 @@
--- `curve::reflect` answers by the kind of curve.
-use mathlib.Core.Path.{sym, _∙_}
-use borrow.Author.Needs.{needs}
-use Rattle.engine.proofs.Limits.{limit-reads, returned}
-use Rattle.engine.proofs.Plotting.{unset-answer, single-answer}
+-- `curve::reflect` mirrors the drawn line below the mirror: no answer is larger than its wave, so it can be negated.
+use native.Mathlib.Omega.{arith}
+use mathlib.Core.Path.{_≡_, refl, sym, ap, _∙_}
+use lib.IntN.{ℤ, pos, negℤ, natAbs}
+use lib.Signed.{_<ℤ_, _≤ℤ_}
+use mir.Facts.{toZ-ofZ}
+use Rattle.whole.specs.Integers.{at, is-neg}
+use Rattle.whole.specs.Order.{zarith, Abs, abs-neg, natAbs-neg, ltZ-true, ltZ-false}
+use Rattle.whole.specs.Fraction.{whole}
+use Rattle.circuit.specs.Curve.{waveLimit, drawn, lineOf, line, towardZero, reflected}
+use Rattle.circuit.specs.declared.CurveKind.{CurveKind}
+use Rattle.circuit.specs.declared.CurveKind.the-variants.{Unset, Single, Pair}
+use Rattle.circuit.specs.declared.Record.{Record}
+use Rattle.laws.specs.Accepted.{Crosses}
+use Rattle.laws.proofs.Line.{pair-left, pair-right}
+use Rattle.laws.proofs.Drawn.{answer-never-exceeds}
+use Rattle.engine.specs.Curve.{Mirrors, Drawing}
+use Rattle.engine.proofs.Limits.{opposite-fits, opposite-reads, limit-reads, returned}
 use Rattle.engine.proofs.curve.reflect.Statement.{statement}
 use Rattle.engine.proofs.curve.reflect.Tie as tie
 
-drawn-line-requires : tie.Need-drawn-line-requires
-drawn-line-requires c κs = let p = c .before .before .before .pre in ((p .0 .0, p .0 .2), rw (limit-reads (p .1)) (p .1))
+module _ (r : Record) {m a : ℤ} (small : Abs a waveLimit) where
+  mirrored : (k : CurveKind) → r .kind ≡ k → Crosses k r → Mirrors k m → a <ℤ m → reflected r a ≡ negℤ (towardZero (drawn r (whole (negℤ a))))
+  unfolding Crosses Mirrors
+  mirrored Unset e c h l = absurd c
+  mirrored Single e c h l = absurd (let none : ⊥ = omega (zarith, is-neg (at (pos waveLimit))) in none)
+  mirrored Pair e c h l = pair-left r e a (rw h at l)
 
-paired-requires : tie.Need-paired-requires
-paired-requires c κs =
-    let p = c .before .before .before .pre in
-    ((p .0 .0, p .0 .1 ∙ c .enum-told3 .given .1, p .0 .2), rw (limit-reads (p .1)) (p .1))
+  straight : (k : CurveKind) → r .kind ≡ k → Crosses k r → Mirrors k m → m ≤ℤ a → reflected r a ≡ towardZero (drawn r (whole a))
+  unfolding Crosses Mirrors reflected line
+  straight Unset e c h l = absurd c
+  straight Single e c h l = ap (λ (k : CurveKind). towardZero (lineOf k (drawn r) (whole a))) e
+  straight Pair e c h l = pair-right r e a (rw h at l)
 
-returns : tie.Need-returns
-returns c = λ r k h. sym (unset-answer r (c .before .before .before .args .wave .0) (k ∙ c .enum-told .given .1))
+-- the answer to the opposite
+module _ (c : tie.After-drawn) where
+  abbrev start : tie.Start
+  start = c .before .before .before
+
+  opposite : (r : Record) → Drawing r (start .args .lines .now) → Mirrors (r .kind) (start .args .mirror)
+      → reflected r (start .args .wave .0) ≡ negℤ (c .drawn .result)
+  opposite r d m =
+      let less = ltZ-true _ _ (rw (limit-reads (start .pre .1), toZ-ofZ (start .fits .mirror)) at (c .before .if1 .taken)) in
+      mirrored r (start .pre .1) (r .kind) refl (d .drawn .crosses) m less
+      ∙ ap negℤ (sym (rw (opposite-reads (start .pre .1)) at (c .drawn .ensures r d)))
+
+  small : Abs (c .drawn .result) waveLimit
+  small =
+      let known = start .pre .0 in
+      let a = start .args .wave .0 in
+      let same = ap natAbs (opposite (known .0) (known .1) (known .2)) ∙ natAbs-neg (c .drawn .result) in
+      record { bound = omega (arith, same, answer-never-exceeds (known .1 .drawn) a, start .pre .1 .bound) }
+
+drawn-requires : tie.Need-drawn-requires
+drawn-requires c κs = let p = c .before .before .pre in ((p .0 .0, p .0 .1), rw (opposite-reads (p .1)) (abs-neg (p .1)))
+
+drawn-requires-2 : tie.Need-drawn-requires-2
+drawn-requires-2 c κs = let p = c .before .before .pre in ((p .0 .0, p .0 .1), rw (limit-reads (p .1)) (p .1))
 
 returns-2 : tie.Need-returns-2
 returns-2 c =
-    let s = c .before .before .before .before in
-    λ r k h.
-    returned (c .drawn-line .result) (c .drawn-line .ok) ∙ (rw (limit-reads (s .pre .1)) at (c .drawn-line .ensures r h))
-    ∙ sym (single-answer r (s .args .wave .0) (k ∙ c .before .enum-told2 .given .1))
-
-returns-3 : tie.Need-returns-3
-returns-3 c =
-    let s = c .before .before .before .before in
-    λ r k h.
-    returned (c .paired .result) (c .paired .ok)
-    ∙ (rw (limit-reads (s .pre .1)) at (c .paired .ensures r (k ∙ c .before .enum-told3 .given .1) h))
+    let s = c .before .before .before in
+    let more = ltZ-false _ _ (rw (limit-reads (s .pre .1), toZ-ofZ (s .fits .mirror)) at (c .before .if1 .left)) in
+    λ r d m.
+    returned (c .drawn2 .result) (c .drawn2 .ok) ∙ (rw (limit-reads (s .pre .1)) at (c .drawn2 .ensures r d))
+    ∙ sym (straight r (s .pre .1) (r .kind) refl (d .drawn .crosses) m more)
 
 pub reflect-spec : {M : Type 1} → statement M
 reflect-spec =
     tie.close
-    (tie.spec
-    (λ c. search needs)
-    (λ c. search needs)
-    drawn-line-requires
-    (λ c. search needs)
-    paired-requires
-    returns
-    returns-2
-    returns-3)
+    (tie.spec (λ c. opposite-fits (c .before .before .pre .1)) drawn-requires (λ c. opposite-fits (small c)) drawn-requires-2
+    (λ c r d m. opposite-reads (small c) ∙ sym (opposite c r d m)) returns-2)

@@ -1,78 +1,58 @@
--- `curve::segment` counts the columns that the wave has passed. The loop's invariant: no column before n is above the wave. Where the walk stops, at
--- a column above the wave or past the last, n is the definition's number, since x rises.
-use Prim.Native.Nat.{ℕ, _≤_, _<_, _-_}
+-- `curve::segment` walks to the first edge above the wave. The loop's invariant: the edge before n is not above it, so that n is no further than
+-- the last column.
+use Prim.Native.Nat.{ℕ, suc, _-_, _<_}
 use native.Mathlib.Omega.{arith}
-use mathlib.Core.Path.{_≡_, sym}
-use mathlib.Core.List.{List}
-use borrow.Author.Count.{below-none, below-more}
-use lib.ListN.{length, getD}
-use lib.IntN.{ℤ, pos}
-use lib.Signed.{_≤ℤ_, _<ℤ_}
+use mathlib.Core.Path.{_≡_}
+use mathlib.Core.List.{[]}
+use borrow.Author.Needs.{needs}
+use lib.ListN.{getD}
+use lib.IntN.{ℤ}
+use lib.Signed.{_≤ℤ_}
 use mir.Syntax.{w64}
-use mir.Val.{SFits, toZ}
-use mir.Facts.{toZ-ofZ}
-use Rattle.whole.specs.Order.{ltZ-true, ltZ-false}
-use Rattle.whole.specs.Fraction.{whole}
-use Rattle.circuit.specs.Curve.{passed}
-use Rattle.circuit.specs.declared.Record.{Record}
-use Rattle.laws.proofs.Drawn.{passed-is}
-use Rattle.engine.specs.Curve.{Across}
+use mir.Val.{toZ, ofZ}
+use Rattle.whole.specs.Order.{leZ-true, leZ-false}
+use Rattle.engine.specs.Curve.{edgeOf, lineLimit}
+use Rattle.engine.proofs.Limits.{limit-reads}
+use Rattle.engine.proofs.Lines.{edge-passed, passed-most, passed-count}
 use Rattle.engine.proofs.curve.segment.Statement.{statement}
 use Rattle.engine.proofs.curve.segment.Tie as tie
 
 abbrev Inv-loop : tie.InvT-loop
-Inv-loop xs wave n₀ n = (n ≤ length xs) × ((k : ℕ) → k < n → getD xs k (pos 0) ≤ℤ toZ w64 wave)
+Inv-loop lines wave n₀ n = (n < lineLimit) × ((k : ℕ) → n ≡ suc k → edgeOf (getD lines k []) ≤ℤ toZ w64 wave)
 
 abbrev μ-loop : tie.MeasureT-loop
-μ-loop xs wave n₀ n = length xs - n
+μ-loop lines wave n₀ n = lineLimit - n
 
--- where the walk stops, the columns before n are passed and column n is not
-counted : {xs : List ℤ} {a : ℤ} {n : ℕ} (r : Record) → Across r xs → n ≤ length xs → ((k : ℕ) → k < n → getD xs k (pos 0) ≤ℤ a)
-    → (n < length xs → a <ℤ getD xs n (pos 0)) → n ≡ passed r (whole a)
-counted {a = a} {n} r h l below above =
-    let size = h .size in
-    sym (passed-is (h .drawn) a n (omega arith) (λ k e. rw (← h .x k (omega arith)) (below k (omega arith)))
-    (λ m. rw (← h .x n m) (above (omega arith))))
+module _ (c : tie.After-if12 Inv-loop μ-loop) where
+  abbrev start : tie.Start Inv-loop μ-loop
+  start = c .before .before
 
-x-fits : (c : tie.After-x Inv-loop μ-loop) → SFits w64 (getD (c .before .before .before .args .xs .now) (c .before .before .loop .n) (pos 0))
-x-fits c = record { sfits = c .x .given }
+  abbrev edge : ℤ
+  edge = edgeOf (getD (start .args .lines .now) (c .before .loop .n) [])
 
-loop-holds : tie.Need-loop-holds Inv-loop μ-loop
-loop-holds c = (omega arith, below-none _)
+  edge-reads : toZ w64 (ofZ w64 edge) ≡ edge
+  edge-reads = search needs
+
+loop-again : tie.Need-loop-again Inv-loop μ-loop
+loop-again c =
+    let at = c .before in
+    let known = start at .pre in
+    let wave = limit-reads (known .1) in
+    let h : edge at ≤ℤ start at .args .wave = leZ-true _ _ (rw (edge-reads at, wave) at (c .if1 .taken)) in
+    let l = edge-passed (known .0 .1) (known .1) _ (at .before .loop .inv .0) h in
+    (omega (arith, known .0 .1 .narrow), λ k e. let same : k ≡ at .before .loop .n = omega arith in rw (same, wave) h)
 
 returns : tie.Need-returns Inv-loop μ-loop
 returns c =
-    let s = c .before .before .before .before in
-    let i = c .before .before .before .loop in
-    let below = rw (toZ-ofZ (s .fits .wave)) at (i .inv .1) in
-    let above = ltZ-true _ _ (rw (toZ-ofZ (s .fits .wave), toZ-ofZ (x-fits (c .before))) at (c .if1 .taken)) in
-    λ r h. counted r h (i .inv .0) below (λ _. above)
-
-loop-again : tie.Need-loop-again Inv-loop μ-loop
-loop-again c = (
-  omega arith,
-  below-more _ _ (c .before .before .before .loop .inv .1) (ltZ-false _ _ (rw (toZ-ofZ (x-fits (c .before))) at (c .if1 .left))),
-)
-
-returns-2 : tie.Need-returns-2 Inv-loop μ-loop
-returns-2 c =
-    let s = c .before .before in
-    let i = c .before .loop in
-    let all : i .n ≡ length (s .args .xs .now) = omega arith in
-    let below = rw (toZ-ofZ (s .fits .wave), all) at (i .inv .1) in
-    λ r h. counted r h (omega arith) below (λ l. absurd (omega arith))
+    let at = c .before in
+    let wave = start at .pre .1 in
+    let few = at .before .loop .inv .0 in
+    let left = rw (limit-reads wave) at (at .before .loop .inv .1) in
+    let right = leZ-false _ _ (rw (edge-reads at, limit-reads wave) at (c .if1 .left)) in
+    λ r d. (passed-most d wave _ few left, passed-count d wave _ few left right)
 
 pub segment-spec : {M : Type 1} → statement M
 segment-spec =
     tie.close
-    (tie.spec
-    Inv-loop
-    μ-loop
-    loop-holds
-    (λ c. omega arith)
-    (λ c. omega arith)
-    returns
-    (λ c. omega arith)
-    (λ c. omega arith)
-    loop-again
-    returns-2)
+    (tie.spec Inv-loop μ-loop (λ c. (omega arith, λ k e. absurd (omega arith))) (λ c. omega arith) (λ c. omega arith) (λ c. search needs)
+    (λ c. omega arith) (λ c. omega arith) loop-again returns)

@@ -6,9 +6,7 @@ use Rattle.engine.proofs.leaf.part_sends.Statement.{statement}
 use Rattle.engine.proofs.leaf.part_sends.Tie as tie
 
 returns-2 : tie.Need-returns-2
-returns-2 c =
-    rw (c .before .before .part .given .1)
-    (c .sent .ensures ∙ rw (toZ-ofZ (c .before .before .before .before .fits .sample), toZ-ofZ (c .before .before .before .before .fits .stored)))
+returns-2 c = rw (c .before .before .part .given .1) (c .sent .ensures ∙ rw (toZ-ofZ (c .before .before .before .before .fits .stored)))
 
 pub part-sends-spec : {M : Type 1} → statement M
 part-sends-spec =

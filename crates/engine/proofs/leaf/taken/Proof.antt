@@ -1,6 +1,7 @@
 -- `taken` meets its contract, element by element.
 use mathlib.Core.Path.{_≡_, refl}
-use mathlib.Core.List.{[], _∷_}
+use mathlib.Core.List.{List, [], _∷_}
+use Prim.Native.Nat.{ℕ}
 use lib.IntN.{ℤ, pos}
 use types.Run.{OneOf, miss}
 use denote.Enum.Declared.{tagOf}
@@ -11,25 +12,21 @@ use Rattle.engine.specs.Plan.{takenOut}
 use Rattle.engine.proofs.leaf.taken.Statement.{statement}
 use Rattle.engine.proofs.leaf.taken.Tie as tie
 
-reactive : (e : Element) (w : ℤ) → OneOf (1 ∷ 2 ∷ []) (tagOf E.the-type e) → w ≡ takenOut e w
-reactive (Resistor r) w h = absurd (miss (1 ∷ 2 ∷ []) 0 tt h)
-reactive (Capacitor c) w h = refl
-reactive (Inductor l) w h = refl
-reactive (Input r) w h = absurd (miss (1 ∷ 2 ∷ []) 3 tt h)
-reactive (Steady r v) w h = absurd (miss (1 ∷ 2 ∷ []) 4 tt h)
+abbrev kept : List ℕ
+kept = 1 ∷ 2 ∷ []
 
-still : (e : Element) (w : ℤ) → OneOf (0 ∷ 3 ∷ 4 ∷ []) (tagOf E.the-type e) → pos 0 ≡ takenOut e w
-still (Resistor r) w h = refl
-still (Capacitor c) w h = absurd (miss (0 ∷ 3 ∷ 4 ∷ []) 1 tt h)
-still (Inductor l) w h = absurd (miss (0 ∷ 3 ∷ 4 ∷ []) 2 tt h)
-still (Input r) w h = refl
-still (Steady r v) w h = refl
+abbrev left : List ℕ
+left = 0 ∷ 3 ∷ 4 ∷ []
 
-returns : tie.Need-returns
-returns c = still (c .before .args .e) (c .before .args .stored .0) (c .match .keys2)
-
-returns-2 : tie.Need-returns-2
-returns-2 c = reactive (c .before .args .e) (c .before .args .stored .0) (c .match .keys1)
+arms : (e : Element) (w : ℤ) → (OneOf kept (tagOf E.the-type e) → w ≡ takenOut e w) × (OneOf left (tagOf E.the-type e) → pos 0 ≡ takenOut e w)
+arms (Resistor r) w = (λ h. absurd (miss kept 0 tt h), λ h. refl)
+arms (Capacitor c) w = (λ h. refl, λ h. absurd (miss left 1 tt h))
+arms (Inductor l) w = (λ h. refl, λ h. absurd (miss left 2 tt h))
+arms (Input r) w = (λ h. absurd (miss kept 3 tt h), λ h. refl)
+arms (Steady r v) w = (λ h. absurd (miss kept 4 tt h), λ h. refl)
 
 pub taken-spec : {M : Type 1} → statement M
-taken-spec = tie.close (tie.spec returns returns-2)
+taken-spec =
+    tie.close
+    (tie.spec (λ c. arms (c .before .args .e) (c .before .args .next .0) .1 (c .match .keys2))
+    (λ c. arms (c .before .args .e) (c .before .args .next .0) .0 (c .match .keys1)))

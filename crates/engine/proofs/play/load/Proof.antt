@@ -1,65 +1,63 @@
--- `load` meets its contract. The loop's invariant: the rows below i hold what they send.
-use Prim.Native.Nat.{ℕ, _-_, _≤_, _<_}
+-- `load` meets its contract. The loop's invariant: what the rows below i send stands in their slots.
+use Prim.Native.Nat.{_-_, _<_, _≤_}
 use native.Mathlib.Omega.{arith}
-use mathlib.Core.Path.{_≡_, refl, _∙_}
-use lib.ListN.{length, length-set}
+use mathlib.Core.Path.{_≡_, refl, sym, _∙_}
 use lib.IntN.{pos}
-use mir.Syntax.{w32, w64}
+use lib.ListN.{length-map}
+use mir.Syntax.{w32}
 use mir.Val.{SFits}
 use mir.Facts.{toZ-ofZ}
-use Rattle.circuit.specs.Sample.{partSends, storedAt, rounded}
-use Rattle.circuit.specs.Record.{rowIn, rowLimit}
-use Rattle.engine.proofs.Fill.{filled-more}
+use Rattle.circuit.specs.Sample.{rounded, partSends, storedAt}
+use Rattle.circuit.specs.Record.{rowLimit, rowIn}
+use Rattle.engine.proofs.Limits.{returned}
+use Rattle.engine.proofs.Loading.{loaded}
+use Rattle.engine.proofs.Placing.{Placed, Own, laid-own, placed-start, placed-more}
 use Rattle.engine.proofs.play.load.Statement.{statement}
 use Rattle.engine.proofs.play.load.Tie as tie
 
 abbrev Inv-loop : tie.InvT-loop
-Inv-loop rows state up₀ i₀ up i =
-    (i ≤ rowLimit) × (length up ≡ rowLimit) × ((j : ℕ) → j < i → storedAt up j ≡ partSends rounded (pos 0) (storedAt (state .waves) j) (rowIn rows j .part))
+Inv-loop count slots rows state up₀ i₀ up i =
+    Own slots count × (i ≤ count) × Placed (pos 0) slots (λ j. partSends rounded (pos 0) (storedAt (state .waves) j) (rowIn rows j .part)) i up
 
 abbrev μ-loop : tie.MeasureT-loop
-μ-loop rows state up₀ i₀ up i = rowLimit - i
+μ-loop count slots rows state up₀ i₀ up i = count - i
 
 loop-holds : tie.Need-loop-holds Inv-loop μ-loop
-loop-holds c = (omega arith, refl, λ j l. absurd (omega arith))
+loop-holds c = (laid-own (c .pre .1 .many) (c .pre .1 .layable), omega arith, placed-start refl)
+
+module _ (c : tie.After-wide Inv-loop μ-loop) where
+  abbrev sent : tie.After-part-sends Inv-loop μ-loop
+  sent = c .before .before .before
+
+  abbrev at-loop : tie.At-loop Inv-loop μ-loop
+  at-loop = sent .before .before .before .before
+
+  -- the slot written to
+  low : c .wide .result < rowLimit
+  low = rw (c .wide .ensures) (at-loop .loop .inv .0 .low (at-loop .loop .i) (omega arith))
 
 loop-again : tie.Need-loop-again Inv-loop μ-loop
 loop-again c =
-    let turn = c .before .before .before .before .before in
-    let start = turn .before in
-    let us = turn .loop .up in
-    let i = turn .loop .i in
-    let rows = start .args .t1 in
-    let ws = start .args .t2 .waves in
-    let v = c .before .part-sends .result .0 in
-    let size : length us ≡ rowLimit = turn .loop .inv .1 in
-    let result : SFits w64 v = record { sfits = c .struct-told .given .0 .1 } in
-    let stored : SFits w32 (storedAt ws i) = record { sfits = c .before .before .part-sends-arg .given } in
-    let sent : v ≡ partSends rounded (pos 0) (storedAt ws i) (rowIn rows i .part) = rw (toZ-ofZ stored) at (c .before .part-sends .ensures) in
-    rw (toZ-ofZ result) (
-      omega arith,
-      length-set us i v ∙ size,
-      filled-more (λ j z. z ≡ partSends rounded (pos 0) (storedAt ws j) (rowIn rows j .part)) (pos 0) us i v (omega arith) (turn .loop .inv .2) sent,
-    )
+    let inv = at-loop c .loop .inv in
+    let call = sent c in
+    let ws = at-loop c .before .args .t2 .waves in
+    let stored : SFits w32 (storedAt ws (at-loop c .loop .i)) = record { sfits = call .before .part-sends-arg .given } in
+    let told = c .before .before .struct-told .given in
+    let wave = returned (call .part-sends .result .0) (told .0 .1) ∙ rw (toZ-ofZ stored) at (call .part-sends .ensures) in
+    (inv .0, omega arith, placed-more (inv .0) (omega arith) (c .wide .ensures) wave (inv .2))
 
+-- a state that code holds has a wave for each row
 returns : tie.Need-returns Inv-loop μ-loop
-returns c = (c .before .loop .inv .1, λ j l. c .before .loop .inv .2 j (omega arith))
+returns c r seat waves =
+    let turn = c .before in
+    let start = turn .before in
+    let done : turn .loop .i ≡ start .args .count = omega arith in
+    let held = start .good .1 .0 in
+    let size = sym (length-map (start .args .t2 .waves) (λ v. v)) ∙ held .1 .1 .0 .1 .0 .1 in
+    loaded seat size waves (rw done at (turn .loop .inv .2))
 
 pub load-spec : {M : Type 1} → statement M
 load-spec =
     tie.close
-    (tie.spec
-    Inv-loop
-    μ-loop
-    loop-holds
-    (λ c. omega arith)
-    (λ c. omega arith)
-    (λ c. omega arith)
-    (λ c. omega arith)
-    (λ c κs. tt)
-    (λ c. omega arith)
-    (λ c. omega arith)
-    (λ c. omega arith)
-    (λ c. omega arith)
-    loop-again
-    returns)
+    (tie.spec Inv-loop μ-loop loop-holds (λ c. omega arith) (λ c. omega arith) (λ c. omega arith) (λ c. omega arith) (λ c κs. tt) (λ c. omega arith)
+    (λ c κs. tt) (λ c. omega (arith, low c)) low (λ c. omega arith) (λ c. omega arith) loop-again returns)

@@ -1,38 +1,60 @@
 -- `play` meets its contract: the stored waves are loaded, the samples are played over a plan of the record, and what they leave is taken out.
-use mathlib.Core.Path.{_≡_, sym, ap, _∙_}
+use mathlib.Core.Path.{_≡_, refl, sym, ap}
 use borrow.Author.Needs.{needs}
-use Rattle.circuit.specs.Run.{Played, Call, Ran, play, worked, ran, call}
-use Rattle.laws.specs.Accepted.{Accepted}
+use Rattle.circuit.specs.Run.{Played, Call, play, worked, ran, call}
 use Rattle.laws.proofs.Running.{allowed-done, ran-worked}
+use Rattle.engine.specs.Plan.{Seated}
 use Rattle.engine.specs.Sample.{Loaded}
-use Rattle.engine.specs.Play.{Stops, Written}
-use Rattle.engine.proofs.Loading as Loading
+use Rattle.engine.proofs.Loading.{cleared, fresh-modest}
 use Rattle.engine.proofs.play.play.Statement.{statement}
 use Rattle.engine.proofs.play.play.Tie as tie
 
-module _ (c : tie.After-load) where
-  abbrev laid : tie.After-plan-of
-  laid = c .before .before .before .before .before .before .before .before .before
+-- ---- the walk
+
+abbrev counted : tie.After-seconds → tie.After-wide
+counted c = c .before .before .before .before
+
+abbrev lent : tie.After-ratios2 → tie.After-load
+lent c = c .before .before .before .before
+
+abbrev at-load : tie.After-samples-arg → tie.After-load
+at-load c = lent (c .before .before .before .before)
+
+-- ---- before the samples
+
+module _ (c : tie.After-lay-out) where
+  abbrev wide : tie.After-wide
+  wide = counted (c .before .before .before .before)
 
   abbrev start : tie.Start
-  start = laid .before
+  start = wide .before .before
 
-  loaded : Loaded (start .args .r) (start .args .state .waves) (c .load .result)
-  loaded = Loading.loaded (start .pre .0) (c .load .result) (c .load .ensures)
+  seated : Seated (start .args .r .rows) (wide .wide .result) (c .lay-out .last .1 .1 .0) (start .args .r)
+  seated = record { prepared = start .args .prepared; all = refl; many = sym (wide .wide .ensures); layable = c .lay-out .ensures .1 }
+
+module _ (c : tie.After-load) where
+  abbrev laid : tie.After-lay-out
+  laid = c .before .before
+
+  loaded : Loaded (start laid .args .r) (start laid .args .state .waves) (c .load .result)
+  loaded = c .load .ensures (start laid .args .r) (seated laid) (start laid .pre .0 .waves)
 
 samples-requires : tie.Need-samples-requires
 samples-requires c κs =
-    let at = c .before .before .before .before .before .before .before .before in
-    (Loading.laid-out (laid at .plan-of .ensures) (loaded at), start at .pre .1)
+    let at = at-load c in
+    let a = start (laid at) .args in (
+      record { circuit = a .r; stored = a .state .waves; fixed = laid at .lay-out .ensures .0; loaded = loaded at; room = fresh-modest },
+      start (laid at) .pre .1,
+    )
 
 -- ---- after the samples
 
 module _ (c : tie.After-samples) where
   abbrev ready : tie.After-load
-  ready = c .before .before .before .before .before .before .before .before .before
+  ready = at-load (c .before)
 
   abbrev begun : tie.Start
-  begun = start ready
+  begun = start (laid ready)
 
   abbrev called : Call
   called = call (begun .args .r) (begun .args .state .waves) (begun .args .input .now) (begun .args .output .now)
@@ -40,41 +62,30 @@ module _ (c : tie.After-samples) where
   abbrev played : Played
   played = play (called .circuit) (called .waves) (called .input)
 
-  come-to : Stops played (c .samples .result) × Written (called .output) (c .samples .last .1 .1 .1 .1 .1 .1 .1 .1 .1 .0) (played .outputs)
-      × Loaded (called .circuit) (played .waves) (c .samples .last .1 .1 .1 .1 .1 .1 .1 .0)
-  come-to = c .samples .ensures .plays (called .circuit) (called .waves) (laid ready .plan-of .ensures .fixed) (loaded ready)
-
-  acc : Accepted (called .circuit)
-  acc = Loading.accepted (begun .pre .0 .ready)
-
 unload-requires : tie.Need-unload-requires
-unload-requires c κs = Loading.limited (acc (c .before)) (come-to (c .before) .2)
+unload-requires c κs =
+    let done = c .before .before in
+    let at = ready done in
+    let w = done .samples .ensures .plays (called done .circuit) (called done .waves) (laid at .lay-out .ensures .0) (loaded at) in
+    (called done .circuit, played done .waves, seated (laid at), w .loaded)
 
 returns : tie.Need-returns
 returns c =
-    let at = c .before .before in
-    let k = called at in
-    let w = come-to at in
-    let e : ran k ≡ worked k (played at) =
-    ran-worked k (ap (λ n. n .number) (allowed-done k (record { cleared = Loading.cleared (begun at .pre .0); equal = begun at .pre .1 }))) in
+    let done = c .before .before .before in
+    let at = ready done in
+    let k = called done in
+    let w = done .samples .ensures .plays (k .circuit) (k .waves) (laid at .lay-out .ensures .0) (loaded at) in
+    let e : ran k ≡ worked k (played done) =
+    ran-worked k (ap (λ n. n .number) (allowed-done k (record { cleared = cleared (begun done .pre .0); equal = begun done .pre .1 }))) in
     record {
-      number = w .0 .number ∙ sym (ap (λ (t : Ran). t .handedBack) e);
-      samples = w .0 .samples ∙ sym (ap (λ (t : Ran). t .samples) e);
-      waves = Loading.all-taken (acc at) (w .2) (c .unload .result .waves) (c .unload .ensures) ∙ sym (ap (λ (t : Ran). t .waves) e);
-      output = w .1 ∙ sym (ap (λ (t : Ran). t .output) e);
+      number = rw e (w .number);
+      samples = rw e (w .samples);
+      waves = rw e (c .unload .ensures (k .circuit) (played done .waves) (seated (laid at)) (w .loaded));
+      output = rw e (w .written);
     }
 
 pub play-spec : {M : Type 1} → statement M
 play-spec =
     tie.close
-    (tie.spec
-    (λ c κs. search needs)
-    (λ c κs. search needs)
-    (λ c. Loading.columns-inside (laid (c .before .before .before .before) .plan-of .ensures) .0)
-    (λ c. search needs)
-    (λ c. Loading.columns-inside (laid (c .before .before .before .before .before) .plan-of .ensures) .1)
-    (λ c. search needs)
-    samples-requires
-    unload-requires
-    (λ c. search needs)
-    returns)
+    (tie.spec (λ c κs. search needs) (λ c κs. search needs) (λ c κs. (start (c .before) .args .r, seated (c .before)))
+    samples-requires unload-requires (λ c. search needs) returns)

@@ -1,10 +1,11 @@
--- `unload` meets its contract. The loop's invariant: the stored waves of the rows below i are taken out.
+-- `unload` meets its contract. The loop's invariant: the stored waves of the rows below i are taken out, and the others are 0.
 use Prim.Native.Nat.{ℕ, _-_, _≤_, _<_}
 use native.Mathlib.Omega.{arith}
-use mathlib.Core.Path.{_≡_, refl, sym, _∙_}
+use mathlib.Core.Path.{_≡_, refl, sym, ap, _∙_}
 use lib.ListN.{length, length-set}
-use lib.IntN.{ℤ, pos}
-use mir.Syntax.{w32, w64}
+use lib.Seq.{getD-set-other}
+use lib.IntN.{pos}
+use mir.Syntax.{w32}
 use mir.Val.{SFits}
 use mir.Facts.{toZ-ofZ}
 use Rattle.whole.specs.Order.{Abs, abs-as}
@@ -14,44 +15,49 @@ use Rattle.circuit.specs.Sample.{storedAt}
 use Rattle.circuit.specs.Record.{rowIn, rowLimit}
 use Rattle.engine.specs.Plan.{partTaken}
 use Rattle.engine.proofs.Fill.{filled-more}
-use Rattle.engine.proofs.Limits.{limit-reads}
+use Rattle.engine.proofs.Limits.{returned, limit-reads}
+use Rattle.engine.proofs.Loading.{zeros-at, outOf, taken, all-taken}
+use Rattle.engine.proofs.Placing.{Own, laid-own}
 use Rattle.engine.proofs.play.unload.Statement.{statement}
 use Rattle.engine.proofs.play.unload.Tie as tie
 
 abbrev Inv-loop : tie.InvT-loop
-Inv-loop rows up state₀ i₀ state i =
-    (i ≤ rowLimit) × (length (state .waves) ≡ rowLimit) × ((j : ℕ) → j < i → storedAt (state .waves) j ≡ partTaken (rowIn rows j .part) (storedAt up j))
+Inv-loop count slots rows up state₀ i₀ state i =
+    Own slots count × (i ≤ count) × (length (state .waves) ≡ rowLimit)
+    × ((j : ℕ) → j < i → storedAt (state .waves) j ≡ outOf rows slots up j) × ((j : ℕ) → i ≤ j → storedAt (state .waves) j ≡ pos 0)
 
 abbrev μ-loop : tie.MeasureT-loop
-μ-loop rows up state₀ i₀ state i = rowLimit - i
+μ-loop count slots rows up state₀ i₀ state i = count - i
 
 loop-holds : tie.Need-loop-holds Inv-loop μ-loop
-loop-holds c = (omega arith, refl, λ j l. absurd (omega arith))
+loop-holds c = (laid-own (c .pre .2 .many) (c .pre .2 .layable), omega arith, refl, λ j l. absurd (omega arith), λ j l. zeros-at rowLimit j)
 
--- the wave that a turn takes out, and its limit
+module _ (c : tie.After-wide Inv-loop μ-loop) where
+  abbrev at-loop : tie.At-loop Inv-loop μ-loop
+  at-loop = c .before .before .before .before
+
+  -- the slot read
+  low : c .wide .result < rowLimit
+  low = rw (c .wide .ensures) (at-loop .loop .inv .0 .low (at-loop .loop .i) (omega arith))
+
+-- the wave taken out
 module _ (c : tie.After-part-taken Inv-loop μ-loop) where
   abbrev turn : tie.At-loop Inv-loop μ-loop
-  turn = c .before .before .before .before
+  turn = at-loop (c .before .before)
 
   abbrev start : tie.Start Inv-loop μ-loop
   start = turn .before
 
-  abbrev wave : ℤ
-  wave = storedAt (start .args .t2) (turn .loop .i)
-
-  taken : c .part-taken .result .0 ≡ partTaken (rowIn (start .args .t1) (turn .loop .i) .part) wave
-  taken =
-      let sent : SFits w64 wave = record { sfits = c .before .t19 .given } in
-      rw (toZ-ofZ sent) at (c .part-taken .ensures)
+  out : c .part-taken .result .0 ≡ outOf (start .args .t1) (start .args .slots .now) (start .args .t4) (turn .loop .i)
+  out =
+      rw (returned _ (c .before .t25 .given)) at (c .part-taken .ensures)
+      ∙ ap (λ s. partTaken (rowIn (start .args .t1) (turn .loop .i) .part) (storedAt (start .args .t4) s)) (c .before .before .wide .ensures)
 
   limited : Abs (c .part-taken .result .0) waveLimit
-  limited = abs-as (start .pre (turn .loop .i) (c .before .before .before .loop-test .taken)) (sym taken) (omega arith)
+  limited = let t = taken (start .pre .2) (start .pre .3) (turn .loop .i) (omega arith) in abs-as (t .1) (sym (out ∙ t .0)) (omega arith)
 
   short : SFits w32 (c .part-taken .result .0)
   short = let l = limited in omega zfits
-
-cast-stored : tie.Need-cast-stored Inv-loop μ-loop
-cast-stored c = rw (limit-reads (limited (c .before .before))) (short (c .before .before))
 
 loop-again : tie.Need-loop-again Inv-loop μ-loop
 loop-again c =
@@ -60,32 +66,26 @@ loop-again c =
     let ws = turn at .loop .state .waves in
     let i = turn at .loop .i in
     let v = at .part-taken .result .0 in
-    let size : length ws ≡ rowLimit = turn at .loop .inv .1 in
+    let inv = turn at .loop .inv in
+    let inside : i < length ws = omega (arith, inv .2) in
     rw (limit-reads (limited at), toZ-ofZ (short at)) (
+      inv .0,
       omega arith,
-      length-set ws i v ∙ size,
-      filled-more (λ j z. z ≡ partTaken (rowIn (a .t1) j .part) (storedAt (a .t2) j)) (pos 0) ws i v (omega arith) (turn at .loop .inv .2) (taken at),
+      length-set ws i v ∙ inv .2,
+      filled-more (λ j z. z ≡ outOf (a .t1) (a .slots .now) (a .t4) j) (pos 0) ws i v inside (inv .3) (out at),
+      λ j l. getD-set-other ws i j v (pos 0) (λ e. omega arith) ∙ inv .4 j (omega arith),
     )
 
 returns : tie.Need-returns Inv-loop μ-loop
-returns c = (c .before .loop .inv .1, λ j l. c .before .loop .inv .2 j (omega arith))
+returns c r ws seat l =
+    let turn = c .before in
+    let done : turn .loop .i ≡ turn .before .args .count = omega arith in
+    let inv = rw done at (turn .loop .inv) in
+    all-taken seat l (inv .2) (inv .3) (inv .4)
 
 pub unload-spec : {M : Type 1} → statement M
 unload-spec =
     tie.close
-    (tie.spec
-    Inv-loop
-    μ-loop
-    loop-holds
-    (λ c. omega arith)
-    (λ c. omega arith)
-    (λ c. omega arith)
-    (λ c. omega arith)
-    (λ c κs. tt)
-    cast-stored
-    (λ c. omega arith)
-    (λ c. omega arith)
-    (λ c. omega arith)
-    (λ c. omega arith)
-    loop-again
-    returns)
+    (tie.spec Inv-loop μ-loop loop-holds (λ c. omega arith) (λ c. omega arith) (λ c. omega arith) (λ c κs. tt) (λ c. omega (arith, low c)) low
+    (λ c κs. tt) (λ c. rw (limit-reads (limited (c .before .before))) (short (c .before .before))) (λ c. omega arith)
+    (λ c. omega (arith, turn (c .before .before) .loop .inv .2)) (λ c. omega arith) (λ c. omega arith) loop-again returns)

@@ -1,158 +1,198 @@
--- `sample` meets its contract. Each way out is one of the definition's outcomes for every circuit that the lists are laid out for; the calls
--- ask what holds for the one that is known to be there.
-use Prim.Native.Nat.{ℕ, _≤_}
-use mathlib.Core.Path.{_≡_, sym, ap, _∙_, subst}
-use mathlib.Core.Bool.{Bool, true, false, not}
+-- `sample` meets its contract. Each way out is one of the definition's outcomes, for every circuit that the plan is laid out for; the calls ask what
+-- holds for the one that is known to be there.
+use Prim.Native.Nat.{ℕ, _+_, _<_}
+use native.Mathlib.Omega.{arith}
+use mathlib.Core.Path.{_≡_, sym, _∙_}
+use mathlib.Core.Bool.{true, false}
 use mathlib.Core.List.{List}
-use lib.IntN.{ℤ, natAbs}
-use lib.ListN.{length}
-use mir.Syntax.{w32}
-use mir.Val.{SFits, toZ, ofZ}
-use mir.Facts.{toZ-ofZ}
 use borrow.Author.Needs.{needs}
 use borrow.Author.Tests.{not-true, not-false}
+use lib.IntN.{ℤ, _+ℤ_}
+use mir.Syntax.{w64}
+use mir.Val.{SFits}
+use mir.Facts.{toZ-ofZ}
 use Rattle.circuit.specs.Counting.{within}
-use Rattle.circuit.specs.Record.{sourceLimit}
+use Rattle.circuit.specs.Record.{sourceLimit, rowLimit}
 use Rattle.circuit.specs.Curve.{waveLimit, reflected}
 use Rattle.circuit.specs.Sample.{storedAt}
 use Rattle.circuit.specs.declared.Record.{Record}
-use Rattle.laws.proofs.Drawn.{answer-never-exceeds}
-use Rattle.engine.specs.Sample.{lifted, Lifts, landed, Settles, Settled, Fixed, Loaded, LaidOut, Works}
-use Rattle.engine.specs.declared.plan.Shape.{Shape}
+use Rattle.engine.specs.Plan.{floor, jointsOf, planOf, Plan}
+use Rattle.engine.specs.Sample.{leafOver, Fixed, Loaded, Works}
 use Rattle.engine.proofs.Limits.{within-abs}
+use Rattle.engine.proofs.Wide.{widened, wide-same}
+use Rattle.engine.proofs.Sampling.{Raised, Landed}
 use Rattle.engine.proofs.Sampling as Sampling
+use Rattle.engine.proofs.Finishing as Finishing
 use Rattle.engine.proofs.sample.sample.Statement.{statement}
 use Rattle.engine.proofs.sample.sample.Tie as tie
 
--- the test of the sample's bits, read back
-quiet : {b : Bool} {x : ℤ} → SFits w32 x → b ≡ within sourceLimit (toZ w32 (ofZ w32 x)) → not b ≡ false → within sourceLimit x ≡ true
-quiet {b} f e h = sym (rw (toZ-ofZ f) at e) ∙ not-false b h
+-- what is laid out, and a circuit and its waves that it is laid out for
+abbrev plan : tie.Start → Plan
+plan s = planOf (s .args .shape) (jointsOf (s .args .joins .now) (s .args .firsts .now) (s .args .seconds .now) (s .args .ratios .now)) (s .args .turns .now) (s .args .lines .now)
 
-lifting : {shape : Shape} {words adaptors leaves reactive : List ℕ} {xs ys ups ds : List ℤ} {x : ℤ}
-    → LaidOut shape words adaptors leaves reactive xs ys ups ds → SFits w32 x → within sourceLimit x ≡ true → Lifts shape words adaptors ups (toZ w32 (ofZ w32 x))
-lifting {x = x} p f q = rw (toZ-ofZ f) (Sampling.lifts (p .fixed) (p .loaded) x q)
+-- ---- the sample
 
-rise-requires : tie.Need-rise-requires
-rise-requires c κs = search (needs, quiet, lifting)
+heard : (c : tie.After-in-source-limit) → c .in-source-limit .result ≡ within sourceLimit (c .before .args .x)
+heard c = rw (toZ-ofZ (c .before .fits .x)) at (c .in-source-limit .ensures)
 
 returns : tie.Need-returns
 unfolding Works
 returns c =
     let start = c .before .before in
-    let loud = sym (rw (toZ-ofZ (start .fits .x)) at (c .before .in-source-limit .ensures)) ∙ not-true _ (c .if1 .taken) in
-    record { works = λ r ws f l. (Sampling.refuses-loud f l (start .args .x) loud, l); room = start .pre .room }
+    let loud = not-true _ (rw (heard (c .before)) at (c .if1 .taken)) in
+    record { works = λ r ws f l. (Sampling.refuses-loud r ws (start .args .x) loud, l); room = start .pre .room }
+
+source : (c : tie.Else1) → within sourceLimit (c .before .before .args .x) ≡ true
+source c = not-false _ (rw (heard (c .before)) at (c .if1 .left))
 
 -- ---- up
 
-module _ (c : tie.After-rise) where
+sweep-up-requires : tie.Need-sweep-up-requires
+sweep-up-requires c κs =
+    let start = c .before .before .before in
+    rw (wide-same (start .fits .x)) (Sampling.climbs (start .pre .fixed) (start .pre .loaded) (start .args .x) (source (c .before)))
+
+module _ (c : tie.After-sweep-up) where
   abbrev start : tie.Start
   start = c .before .before .before .before
 
-  abbrev x : ℤ
-  x = start .args .x
-
-  in-limit : within sourceLimit x ≡ true
-  in-limit = quiet (start .fits .x) (c .before .before .before .in-source-limit .ensures) (c .before .before .if1 .left)
-
   abbrev above : List ℤ
-  above = lifted (start .args .shape) (start .args .words .now) (start .args .adaptors .now) (start .args .up .now) x
+  above = c .sweep-up .last .1 .1 .1 .1 .1 .0
 
-  lifted-there : c .rise .last .1 .1 .1 .0 ≡ above
-  lifted-there = rw (toZ-ofZ (start .fits .x)) at (c .rise .ensures .0)
+  abbrev wave : ℤ
+  wave = storedAt above (floor + start .args .shape .adaptors)
 
-  abbrev top : ℤ
-  top = storedAt above (start .args .shape .last)
+  raised : {r : Record} {ws : List ℤ} → Fixed (plan start) r → Loaded r ws (start .args .up .now) → Raised (plan start) r ws (start .args .up .now) (start .args .x) above
+  raised f l =
+      let quiet = source (c .before .before) in
+      record { fixed = f; loaded = l; source = quiet; up = rw (wide-same (start .fits .x)) at (c .sweep-up .ensures) (Sampling.climbs f l (start .args .x) quiet) }
 
-  top-there : c .rise .result .0 ≡ top
-  top-there = c .rise .ensures .1 ∙ ap (λ l. storedAt l (start .args .shape .last)) lifted-there
+wave-fits : (c : tie.After-t28) → SFits w64 (wave (c .before))
+wave-fits c = record { sfits = c .t28 .given }
 
-  -- a circuit that the lists are laid out for, and waves that are loaded
-  abbrev Circuit : Record → Type 0
-  Circuit r = Fixed (start .args .shape) (start .args .words .now) (start .args .adaptors .now) (start .args .leaves .now) (start .args .reactive .now) (start .args .xs .now) (start .args .ys .now) r
+tested : (c : tie.After-in-limit) → c .in-limit .result ≡ within waveLimit (wave (c .before .before))
+tested c = rw (toZ-ofZ (wave-fits (c .before))) at (c .in-limit .ensures)
 
 returns-2 : tie.Need-returns-2
 unfolding Works
 returns-2 c =
-    let at = c .before .before in
-    let over = sym (rw (top-there at) at (c .before .in-limit .ensures)) ∙ not-true _ (c .if2 .taken) in
-    record {
-      works = λ r ws f l. (
-        Sampling.refuses-top f l (x at) (in-limit at) over,
-        subst (Loaded r ws) (sym (lifted-there at)) (Sampling.loaded-still f l (x at) (in-limit at)),
-      );
-      room = start at .pre .room;
-    }
+    let at-up = c .before .before .before in
+    let over = not-true _ (rw (tested (c .before)) at (c .if2 .taken)) in
+    record { works = λ r ws f l. (Sampling.refuses-top (raised at-up f l) over, Sampling.still (raised at-up f l)); room = start at-up .pre .room }
 
 -- ---- the diode
 
-calm : (c : tie.Else2) → within waveLimit (top (c .before .before)) ≡ true
-calm c = let at = c .before .before in sym (rw (top-there at) at (c .before .in-limit .ensures)) ∙ not-false _ (c .if2 .left)
+module _ (c : tie.After-struct-told) where
+  abbrev at-up : tie.After-sweep-up
+  at-up = c .before .before .before .before
+
+  calm : within waveLimit (wave at-up) ≡ true
+  calm = not-false _ (rw (tested (c .before .before)) at (c .before .if2 .left))
+
+  mirror-fits : SFits w64 (start at-up .args .shape .mirror)
+  mirror-fits = record { sfits = c .struct-told .given .1 .1 .1 .0 .1 }
 
 reflect-requires : tie.Need-reflect-requires
 reflect-requires c κs =
-    let at = c .before .before in
-    let p = start at .pre in
-    ((p .circuit, sym (p .fixed .kind), p .fixed .plotted), rw (top-there at) (within-abs waveLimit (top at) (calm c)))
+    let p = start (at-up c) .pre in
+    rw (toZ-ofZ (mirror-fits c), toZ-ofZ (wave-fits (c .before .before .before)))
+    ((p .circuit, p .fixed .drawn, p .fixed .mirror), within-abs waveLimit (wave (at-up c)) (calm c))
 
 module _ (c : tie.After-reflect) where
-  abbrev up : tie.After-rise
-  up = c .before .before .before
+  abbrev risen : tie.After-sweep-up
+  risen = at-up (c .before)
 
-  abbrev answer : ℤ
-  answer = c .reflect .result .0
-
-  -- for any circuit, and no larger than the wave that reaches it
-  answered : (r : Record) → Circuit up r → (answer ≡ reflected r (top up)) × (natAbs answer ≤ natAbs (top up))
-  answered r f =
-      let e = rw (top-there up) at (c .reflect .ensures r (sym (f .kind)) (f .plotted)) in
-      (e, subst (λ (z : ℤ). natAbs z ≤ natAbs (top up)) (sym e) (answer-never-exceeds (f .accepted .drawn) (top up)))
+  answered : {r : Record} → Fixed (plan (start risen)) r → c .reflect .result .0 ≡ reflected r (wave risen)
+  answered {r} f =
+      rw (toZ-ofZ (mirror-fits (c .before)), toZ-ofZ (wave-fits (c .before .before .before .before))) at (c .reflect .ensures) r (f .drawn) (f .mirror)
 
 -- ---- down
 
-in-place : (P : List ℤ → List ℤ → Type 0) {us vs ds es : List ℤ} → us ≡ vs → ds ≡ es → P us ds → P vs es
-in-place P e f h = rw (← e, ← f) h
+answer-fits : (c : tie.After-struct-told2) → SFits w64 (c .before .reflect .result .0)
+answer-fits c = record { sfits = c .struct-told2 .given .0 .1 }
 
-land-requires : tie.Need-land-requires
-land-requires c κs =
-    let at = c .before .before in
-    let p = start (up at) .pre in
-    let a = answered at (p .circuit) (p .fixed) in
-    rw (lifted-there (up at))
-    (Sampling.lands (p .fixed) (p .loaded) (x (up at)) (in-limit (up at)) (calm (at .before)) (answer at) (a .0) (a .1) (start (up at) .args .down .now) (p .room))
+sweep-down-requires : tie.Need-sweep-down-requires
+sweep-down-requires c κs =
+    let at-diode = c .before .before .before in
+    let p = start (risen at-diode) .pre in
+    rw (toZ-ofZ (answer-fits (c .before .before)))
+    (Sampling.drops (raised (risen at-diode) (p .fixed) (p .loaded)) (calm (at-diode .before)) (answered at-diode (p .fixed)) (p .room))
 
-module _ (c : tie.After-land) where
-  abbrev diode : tie.After-reflect
-  diode = c .before .before .before
+module _ (c : tie.After-sweep-down) where
+  abbrev at-diode : tie.After-reflect
+  at-diode = c .before .before .before .before
 
   abbrev begun : tie.Start
-  begun = start (up diode)
+  begun = start (risen at-diode)
 
-  landed-there : c .land .last .1 .1 .1 .1 .0 ≡ landed (begun .args .shape) (begun .args .words .now) (begun .args .adaptors .now) (above (up diode)) (begun .args .down .now) (answer diode)
-  landed-there = rw (lifted-there (up diode)) at (c .land .ensures)
+  abbrev below : List ℤ
+  below = c .sweep-down .last .1 .1 .1 .1 .1 .1 .0
 
-settle-requires : tie.Need-settle-requires
-settle-requires c κs =
-    let at = c .before .before in
-    let p = begun at .pre in
-    let a = answered (diode at) (p .circuit) (p .fixed) in
-    in-place (Settles (begun at .args .shape) (begun at .args .words .now) (begun at .args .leaves .now) (begun at .args .reactive .now))
-    (sym (lifted-there (up (diode at)))) (sym (landed-there at))
-    (Sampling.settles (p .fixed) (p .loaded) (x (up (diode at))) (in-limit (up (diode at))) (calm (diode at .before)) (answer (diode at)) (a .0) (a .1) (begun at .args .down .now) (p .room))
+  landed : {r : Record} {ws : List ℤ} → Fixed (plan begun) r → Loaded r ws (begun .args .up .now)
+      → Landed (plan begun) r ws (begun .args .x) (above (risen at-diode)) below
+  landed f l =
+      let h = raised (risen at-diode) f l in
+      let answers = answered at-diode f in
+      Sampling.landed h (calm (at-diode .before)) answers (begun .pre .room)
+      (rw (toZ-ofZ (answer-fits (c .before .before .before))) at (c .sweep-down .ensures) (Sampling.drops h (calm (at-diode .before)) answers (begun .pre .room)))
+
+  own : Landed (plan begun) (begun .pre .circuit) (begun .pre .stored) (begun .args .x) (above (risen at-diode)) below
+  own = landed (begun .pre .fixed) (begun .pre .loaded)
+
+leaf-over-requires : tie.Need-leaf-over-requires
+leaf-over-requires c κs = let p = begun (c .before) .pre in (omega (arith, p .fixed .adaptors, p .fixed .slotted .few), own (c .before) .modest)
 
 returns-3 : tie.Need-returns-3
 returns-3 c =
     let at = c .before .before .before in
-    let p = begun at .pre in
-    let own = answered (diode at) (p .circuit) (p .fixed) in
-    record {
-      works = λ r ws f l.
-          let a = answered (diode at) r f in
-          Sampling.settled-works f l (x (up (diode at))) (in-limit (up (diode at))) (calm (diode at .before)) (answer (diode at)) (a .0) (a .1) (begun at .args .down .now) (p .room)
-          (in-place (λ us ds. Settled (begun at .args .shape) (begun at .args .words .now) (begun at .args .leaves .now) (begun at .args .reactive .now) us ds (c .settle .result) (c .settle .last .1 .1 .1 .1 .0))
-          (lifted-there (up (diode at))) (landed-there at) (c .settle .ensures));
-      room = ap length (landed-there at)
-          ∙ (Sampling.below-long (p .fixed) (p .loaded) (x (up (diode at))) (in-limit (up (diode at))) (calm (diode at .before)) (answer (diode at)) (own .0) (own .1) (begun at .args .down .now) (p .room));
-    }
+    record { works = λ r ws f l. Finishing.over-works (landed at f l) (sym (c .before .leaf-over .ensures) ∙ c .if3 .taken); room = own at .modest }
+
+-- ---- the end
+
+module _ (c : tie.Else3) where
+  abbrev at-leaves : tie.After-sweep-down
+  at-leaves = c .before .before .before
+
+  calm-leaves : leafOver (begun at-leaves .args .shape .adaptors) (below at-leaves) ≡ false
+  calm-leaves = sym (c .before .leaf-over .ensures) ∙ c .if3 .left
+
+  abbrev tap : ℕ
+  tap = begun at-leaves .args .shape .tap
+
+  tap-inside : tap < rowLimit
+  tap-inside = Finishing.tapped (own at-leaves) calm-leaves .inside
+
+  abbrev sent : ℤ
+  sent = storedAt (above (risen (at-diode at-leaves))) tap
+
+  abbrev arriving : ℤ
+  arriving = storedAt (below at-leaves) tap
+
+-- the tap's two waves
+taps-fit : (c : tie.After-t40) → SFits w64 (sent (c .before .before)) × SFits w64 (arriving (c .before .before))
+taps-fit c = (record { sfits = c .before .t282 .given }, record { sfits = c .t40 .given })
+
+tapped-requires : tie.Need-tapped-requires
+tapped-requires c κs =
+    let at = c .before .before in
+    let port = Finishing.tapped (own (at-leaves at)) (calm-leaves at) in
+    rw (toZ-ofZ (taps-fit c .0), toZ-ofZ (taps-fit c .1)) (port .sent, port .arrived)
+
+module _ (c : tie.After-tapped) where
+  abbrev at-end : tie.Else3
+  at-end = c .before .before .before
+
+  tap-read : c .tapped .result .0 ≡ sent at-end +ℤ arriving at-end
+  tap-read = rw (toZ-ofZ (taps-fit (c .before) .0), toZ-ofZ (taps-fit (c .before) .1)) at (c .tapped .ensures)
+
+store-requires : tie.Need-store-requires
+store-requires c κs = let at = at-end (c .before .before) in Finishing.restores (own (at-leaves at)) (calm-leaves at)
+
+returns-4 : tie.Need-returns-4
+returns-4 c =
+    let at-tapped = c .before .before .before in
+    let at = at-end at-tapped in
+    record { works = λ r ws f l. Finishing.works (landed (at-leaves at) f l) (calm-leaves at) (tap-read at-tapped) (c .store .ensures); room = own (at-leaves at) .modest }
 
 pub sample-spec : {M : Type 1} → statement M
 sample-spec =
@@ -160,10 +200,25 @@ sample-spec =
     (tie.spec
     (λ c κs. search needs)
     returns
-    rise-requires
+    (λ c. widened (c .before .before .fits .x))
+    (λ c. search needs)
+    sweep-up-requires
+    (λ c. search needs)
+    (λ c. search needs)
+    (λ c. search needs)
     (λ c κs. search needs)
     returns-2
     reflect-requires
-    land-requires
-    settle-requires
-    returns-3)
+    (λ c. search needs)
+    (λ c. search needs)
+    (λ c. search needs)
+    sweep-down-requires
+    leaf-over-requires
+    returns-3
+    (λ c. omega (arith, tap-inside c))
+    tap-inside
+    (λ c. omega (arith, tap-inside (c .before)))
+    (λ c. tap-inside (c .before))
+    tapped-requires
+    store-requires
+    returns-4)

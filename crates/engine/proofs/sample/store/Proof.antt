@@ -1,57 +1,57 @@
--- `store` meets its contract. The loop's invariant: the first k reactive rows hold what they keep.
-use Prim.Native.Nat.{_-_, _≤_, _<_}
-use native.Mathlib.Numerals.{add-one}
+-- `store` meets its contract. The loop's invariant: the first s slots hold what they keep, the others what they held.
+use Prim.Native.Nat.{ℕ, _+_, _-_, _≤_, _<_}
 use native.Mathlib.Omega.{arith}
 use mathlib.Core.Path.{_≡_, refl, _∙_}
-use lib.ListN.{getD}
+use mathlib.Core.List.{List}
+use lib.IntN.{ℤ, pos}
+use lib.ListN.{length, set, length-set}
+use lib.Seq.{getD-set-other}
 use mir.Syntax.{w64}
 use mir.Val.{SFits}
 use mir.Facts.{toZ-ofZ}
-use Rattle.circuit.specs.Record.{rowLimit}
 use Rattle.circuit.specs.Sample.{storedAt}
-use Rattle.engine.specs.Sample.{turnedBy, restored}
+use Rattle.engine.specs.Sample.{turnedBy, Restored}
+use Rattle.engine.proofs.Fill.{filled-more}
 use Rattle.engine.proofs.sample.store.Statement.{statement}
 use Rattle.engine.proofs.sample.store.Tie as tie
 
 abbrev Inv-loop : tie.InvT-loop
-Inv-loop words reactive q down up₀ k₀ up k = (k ≤ q) × (up ≡ restored words reactive down k up₀)
+Inv-loop turns q down up₀ s₀ up s = (s ≤ q) × Restored turns down s up₀ up
 
 abbrev μ-loop : tie.MeasureT-loop
-μ-loop words reactive q down up₀ k₀ up k = q - k
+μ-loop turns q down up₀ s₀ up s = q - s
 
 loop-holds : tie.Need-loop-holds Inv-loop μ-loop
-unfolding restored
-loop-holds c = (omega arith, refl)
+loop-holds c = (omega arith, record { long = refl; kept = λ s h. absurd (omega (arith, h)); rest = λ s h. refl })
 
-inside : (c : tie.After-wide Inv-loop μ-loop) → c .wide .result < rowLimit
-inside c = rw (c .wide .ensures) (c .before .before .before .before .pre .row (c .before .before .before .loop .k) (c .before .before .loop-test .taken))
-
--- the wave that is read
-arrived : (c : tie.After-t20 Inv-loop μ-loop) → SFits w64 (storedAt (c .before .before .before .before .before .before .args .down .now) (c .before .before .wide .result))
-arrived c = record { sfits = c .t20 .given }
+-- the waves that are read
+fits : (c : tie.After-turned-arg2 Inv-loop μ-loop) → let at-loop = c .before .before .before in
+    SFits w64 (storedAt (at-loop .before .args .turns .now) (at-loop .loop .s)) × SFits w64 (storedAt (at-loop .before .args .down .now) (at-loop .loop .s))
+fits c = (record { sfits = c .before .turned-arg .given }, record { sfits = c .turned-arg2 .given })
 
 turned-requires : tie.Need-turned-requires Inv-loop μ-loop
 turned-requires c κs =
-    let at = c .before .before .before .before .before in
-    rw (toZ-ofZ (arrived c), c .before .before .wide .ensures) (at .before .pre .wave (at .loop .k) (c .before .before .before .before .loop-test .taken))
+    let at-loop = c .before .before .before in
+    let inside = c .before .before .loop-test .taken in
+    rw (toZ-ofZ (fits c .0), toZ-ofZ (fits c .1)) (at-loop .before .pre .turn (at-loop .loop .s) inside, at-loop .before .pre .wave (at-loop .loop .s) inside)
 
--- what this turn keeps
-kept : (c : tie.After-turned Inv-loop μ-loop)
-    → let start = c .before .before .before .before .before .before .before in
-    c .turned .result .0 ≡ turnedBy (getD (start .args .words .now) (c .before .before .before .wide .result) 0) (storedAt (start .args .down .now) (c .before .before .before .wide .result))
-kept c = c .turned .ensures ∙ rw (toZ-ofZ (arrived (c .before)))
+restored-more : {turns ds ups after : List ℤ} {s : ℕ} {v : ℤ} → Restored turns ds s ups after → s < length after
+    → v ≡ turnedBy (storedAt turns s) (storedAt ds s) → Restored turns ds (s + 1) ups (set after s v)
+restored-more {turns} {ds} {ups} {after} {s} {v} h inside e = record {
+  long = length-set after s v ∙ h .long;
+  kept = filled-more (λ j z. z ≡ turnedBy (storedAt turns j) (storedAt ds j)) (pos 0) after s v inside (h .kept) e;
+  rest = λ j l. getD-set-other after s j v (pos 0) (λ q. omega arith) ∙ h .rest j (omega arith);
+}
 
 loop-again : tie.Need-loop-again Inv-loop μ-loop
-unfolding restored
 loop-again c =
-    let turn = c .before .before in
-    let at = turn .before .before .before .before .before .before in
-    (omega arith, c .keep .ensures ∙ rw (kept turn, turn .before .before .before .wide .ensures, at .loop .inv .1, add-one))
+    let at-loop = c .before .before .before .before in
+    let long = at-loop .loop .inv .1 .long in
+    let few = at-loop .before .pre .few in
+    (omega arith, restored-more (at-loop .loop .inv .1) (omega (arith, at-loop .before .pre .long)) (rw (toZ-ofZ (record { sfits = c .turned .ok }), c .turned .ensures, toZ-ofZ (fits (c .before) .0), toZ-ofZ (fits (c .before) .1))))
 
 returns : tie.Need-returns Inv-loop μ-loop
-returns c =
-    let done : c .before .loop .k ≡ c .before .before .args .q = omega arith in
-    rw (← done) (c .before .loop .inv .1)
+returns c = let done : c .before .loop .s ≡ c .before .before .args .q = omega arith in rw (← done) (c .before .loop .inv .1)
 
 pub store-spec : {M : Type 1} → statement M
 store-spec =
@@ -60,14 +60,13 @@ store-spec =
     Inv-loop
     μ-loop
     loop-holds
-    (λ c. omega (arith, c .before .before .pre .few))
-    (λ c κs. tt)
-    (λ c. omega (arith, inside c))
-    (λ c. inside c)
-    (λ c. omega (arith, inside (c .before)))
-    (λ c. inside (c .before))
+    (λ c. omega arith)
+    (λ c. omega arith)
+    (λ c. omega arith)
+    (λ c. omega arith)
     turned-requires
-    (λ c κs. inside (c .before .before .before .before))
+    (λ c. omega arith)
+    (λ c. omega arith)
     (λ c. omega arith)
     (λ c. omega arith)
     loop-again

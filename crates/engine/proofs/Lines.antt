@@ -1,0 +1,207 @@
+-- The lines of a curve: no step of one leaves 64 bits, each is the definition's piece, and the first edge above a wave counts the columns passed.
+use Prim.Native.Nat.{ℕ, zero, suc, _+_, _-_, _^_, _<_, _≤_, max}
+use native.Mathlib.Decide.{decLt}
+use native.Mathlib.Nat.{eq-or-lt-of-le}
+use native.Mathlib.Omega.{arith}
+use mathlib.Core.Path.{_≡_, refl, sym, ap, _∙_}
+use mathlib.Core.Logic.{⊎-elim}
+use mathlib.Core.List.{List, [], _∷_}
+use borrow.Author.Count.{below-none}
+use borrow.Author.Tests.{lt-ltb, le-ltb}
+use lib.ListN.{getD, set, replicate, length-set, length-replicate, getD-replicate}
+use lib.Seq.{getD-set-other}
+use lib.IntN.{ℤ, pos, negsuc, _+ℤ_, _-ℤ_, _*ℤ_}
+use lib.Signed.{_≤ℤ_, _<ℤ_, quotZ}
+use mir.Syntax.{w32, w64}
+use mir.Val.{Fits, SFits, toZ, ofZ}
+use Rattle.whole.specs.Integers.{at, _⊟_}
+use Rattle.whole.specs.Order.{zarith, Abs, abs-add, abs-neg, abs-mul, abs-as}
+use Rattle.whole.specs.Ring.{var, _⊕_, _⊗_, _⊝_, ring}
+use Rattle.whole.specs.Signed.{zfits, toZ-u32, trunc-fits}
+use Rattle.whole.specs.Fraction.{whole}
+use Rattle.circuit.specs.Record.{columnLimit}
+use Rattle.circuit.specs.Curve.{waveLimit, Slope, through, slopeAt, oneUp, oneDown, passed, piece, towardZero}
+use Rattle.circuit.specs.declared.Column.{Column}
+use Rattle.circuit.specs.declared.Record.{Record}
+use Rattle.laws.specs.Accepted.{Drawn}
+use Rattle.laws.proofs.Line.{through-answer, run-is}
+use Rattle.laws.proofs.Drawn.{passed-is, column-y-small}
+use Rattle.engine.specs.Curve.{edgeOf, lineBy, lineOn, Sloped, lineLimit, beyond, columnIn, lineIn, lastLine, Laid, Drawing}
+use Rattle.engine.proofs.Fill.{filled-more}
+use Rattle.engine.proofs.Limits.{abs-fits, difference-range}
+
+-- ---- one line in 64 bits
+
+module _ {c : Column} {rise run : ℤ} (s : Sloped c rise run) where
+  abbrev base : ℤ
+  base = c .y *ℤ run -ℤ rise *ℤ c .x
+
+  base-bound : Abs base (2 ^ 54)
+  base-bound = abs-as (abs-add (abs-mul (s .back) (s .run-small)) (abs-neg (abs-mul (s .rise-small) (s .across)))) refl (omega arith)
+
+  pub height : SFits w64 (c .y *ℤ run)
+  height = abs-fits (abs-mul (s .back) (s .run-small)) (omega arith)
+
+  pub climb : {a : ℤ} → Abs a waveLimit → SFits w64 (rise *ℤ a)
+  climb h = abs-fits (abs-mul (s .rise-small) h) (omega arith)
+
+  pub base-fits : SFits w64 base
+  base-fits = abs-fits base-bound (omega arith)
+
+  pub span-fits : SFits w64 (run -ℤ pos 1)
+  span-fits = let h = s .run-small in omega (zfits, at run ⊟ at (pos 1))
+
+  line-fits : {a : ℤ} → Abs a waveLimit → SFits w64 (rise *ℤ a +ℤ base)
+  line-fits h = abs-fits (abs-add (abs-mul (s .rise-small) h) base-bound) (omega arith)
+
+-- the steps to a line's value v at a wave
+pub record Steps (l : List ℤ) (a v : ℤ) : Type 0 where
+  pub wave : SFits w64 a
+  pub rise : SFits w64 (getD l 1 (pos 0))
+  pub base : SFits w64 (getD l 2 (pos 0))
+  pub span : ℕ
+  pub short : Fits w32 span
+  pub span-reads : toZ w64 (ofZ w64 (getD l 3 (pos 0))) ≡ pos span
+  pub run : SFits w64 (pos (span + 1))
+  pub product : SFits w64 (getD l 1 (pos 0) *ℤ a)
+  pub sum : SFits w64 (getD l 1 (pos 0) *ℤ a +ℤ getD l 2 (pos 0))
+  pub quotient : SFits w64 (quotZ (getD l 1 (pos 0) *ℤ a +ℤ getD l 2 (pos 0)) (pos (span + 1)))
+  pub value : quotZ (getD l 1 (pos 0) *ℤ a +ℤ getD l 2 (pos 0)) (pos (span + 1)) ≡ v
+
+steps : (edge : ℤ) (c : Column) (s : Slope) {a : ℤ} → Sloped c (s .rise) (pos (max 1 (s .run))) → Abs a waveLimit
+    → Steps (lineOn edge c s) a (towardZero (through c s (whole a)))
+steps edge c s {a} h w =
+    let k = max 1 (s .run) in
+    let same : k - 1 + 1 ≡ k = omega arith in
+    let last : pos k -ℤ pos 1 ≡ pos (k - 1) = omega (zarith, at (pos k) ⊟ at (pos 1)) in
+    let short : Fits w32 (k - 1) = record { fits = omega (arith, h .run-small .bound) } in
+    let x = var 0 in let y = var 1 in let C = var 2 in let K = var 3 in let A = var 4 in
+    record {
+      wave = abs-fits w (omega arith);
+      rise = abs-fits (h .rise-small) (omega arith);
+      base = base-fits h;
+      span = k - 1;
+      short = short;
+      span-reads = ap (λ (z : ℤ). toZ w64 (ofZ w64 z)) last ∙ toZ-u32 (k - 1) short;
+      run = record { sfits = omega (arith, short .fits) };
+      product = climb h w;
+      sum = line-fits h w;
+      quotient = trunc-fits (k - 1 + 1) (line-fits h w);
+      value = rw same
+          (ap (λ (z : ℤ). quotZ z (pos k))
+          (ring (c .x ∷ c .y ∷ s .rise ∷ pos k ∷ a ∷ []) (C ⊗ A ⊕ (y ⊗ K ⊝ C ⊗ x)) (y ⊗ K ⊕ C ⊗ (A ⊝ x)) refl) ∙ sym (through-answer c s a));
+    }
+
+-- ---- the columns that the lines go through
+
+pub record Plotted (columns : List Column) (width : ℕ) : Type 0 where
+  pub two : 2 ≤ width
+  pub narrow : width ≤ columnLimit
+  pub across : (i : ℕ) → i < width → Abs (columnIn columns i .x) waveLimit
+  pub back : (i : ℕ) → i < width → Abs (columnIn columns i .y) waveLimit
+  pub rises : (i : ℕ) → suc i < width → columnIn columns i .x <ℤ columnIn columns (suc i) .x
+
+pub plotted : {r : Record} {columns : List Column} {width : ℕ}
+    → r .columns ≡ columns → r .width ≡ width → Drawn r → width ≤ columnLimit → Plotted columns width
+plotted e f d narrow = record {
+  two = rw (← f) (d .two);
+  narrow = narrow;
+  across = λ i l. rw (← e) (record { bound = d .small i (rw f l) });
+  back = λ i l. rw (← e) (record { bound = column-y-small d i (rw f l) });
+  rises = λ i l. rw (← e) (d .beside i (rw f l) .rises);
+}
+
+module _ {columns : List Column} {width : ℕ} (p : Plotted columns width) where
+  abbrev column : ℕ → Column
+  column = columnIn columns
+
+  -- one for one
+  pub level : (i : ℕ) → i < width → (rise : ℤ) → Abs rise 1 → Sloped (column i) rise (pos 1)
+  level i l rise h = record { across = p .across i l; back = p .back i l; rise-small = omega zarith; run-small = omega zarith }
+
+  -- to the next
+  pub spans : (i n : ℕ) → suc i ≡ n → n < width → Sloped (column i) (column n .y -ℤ column i .y) (column n .x -ℤ column i .x)
+  spans i n e l =
+      let here : i < width = omega arith in
+      record {
+        across = p .across i here;
+        back = p .back i here;
+        rise-small = difference-range (p .back n l) (p .back i here);
+        run-small = difference-range (p .across n l) (p .across i here);
+      }
+
+  pub inner-line : (i n : ℕ) → suc i ≡ n → n < width
+      → lineBy (column n .x) (column i) (column n .y -ℤ column i .y) (column n .x -ℤ column i .x) ≡ lineIn columns n
+  inner-line i n e l =
+      let z = column (suc i) in
+      rw (← e) (ap (lineBy (z .x) (column i) (z .y -ℤ column i .y)) (sym (run-is (column i) z (p .rises i (rw e l)))))
+
+-- ---- lines laid one by one
+
+pub laid-none : {columns : List Column} {width : ℕ} {l : List ℤ} → l ≡ lastLine columns width → Laid columns width 0 (replicate lineLimit l)
+laid-none {l = l} e = record { long = length-replicate lineLimit l; line = below-none _; rest = λ n h k. getD-replicate lineLimit n l [] k ∙ e }
+
+pub laid-more : {columns : List Column} {width i : ℕ} {lines : List (List ℤ)} {l : List ℤ}
+    → Laid columns width i lines → i < width → i < lineLimit → l ≡ lineIn columns i → Laid columns width (i + 1) (set lines i l)
+laid-more {columns} {i = i} {lines} {l} d inside few e = record {
+  long = length-set lines i l ∙ d .long;
+  line = filled-more (λ n m. m ≡ lineIn columns n) [] lines i l (rw (d .long) few) (d .line) e;
+  rest = λ n h k. getD-set-other lines i n l [] (λ same. omega arith) ∙ d .rest n h k;
+}
+
+-- ---- the definition's pieces
+
+module _ {r : Record} {lines : List (List ℤ)} (d : Drawing r lines) {a : ℤ} (w : Abs a waveLimit) where
+  abbrev columns : List Column
+  columns = r .columns
+
+  columns-plotted : Plotted columns (r .width)
+  columns-plotted = plotted refl refl (d .drawn) (d .narrow)
+
+  abbrev Piece : ℕ → Type 0
+  Piece n = Steps (getD lines n []) a (towardZero (piece r n (whole a)))
+
+  inside : (n : ℕ) → n < r .width → Piece n
+  unfolding piece
+  inside zero l = rw (d .laid .line 0 l) (steps _ (columnIn columns 0) oneUp (level columns-plotted 0 l (pos 1) (omega zarith)) w)
+  inside (suc n) l =
+      let p = columns-plotted in
+      let sloped = rw (← run-is (columnIn columns n) (columnIn columns (suc n)) (p .rises n l)) at (spans p n (suc n) refl l) in
+      rw (d .laid .line (suc n) l, lt-ltb (suc n) (r .width) l) (steps _ (columnIn columns n) (slopeAt r n) sloped w)
+
+  past : (n : ℕ) → n ≡ r .width → Piece n
+  unfolding piece
+  past zero e = absurd (omega (arith, d .drawn .two))
+  past (suc n) e =
+      let last : r .width - 1 ≡ n = omega arith in
+      rw (d .laid .rest (suc n) (omega arith) (omega (arith, d .narrow)), le-ltb (suc n) (r .width) (omega arith), last)
+      (steps beyond (columnIn columns n) oneDown (level columns-plotted n (omega arith) (negsuc 0) (omega zarith)) w)
+
+  pub piece-steps : (n : ℕ) → n ≤ r .width → Piece n
+  piece-steps n l = ⊎-elim (past n) (inside n) (eq-or-lt-of-le l)
+
+  -- ---- the columns passed
+
+  edge-is : (n : ℕ) → n < r .width → edgeOf (getD lines n []) ≡ columnIn columns n .x
+  edge-is zero l = ap edgeOf (d .laid .line 0 l)
+  edge-is (suc n) l = ap edgeOf (d .laid .line (suc n) l)
+
+  -- no wave passes an edge past the columns
+  pub edge-passed : (n : ℕ) → n < lineLimit → edgeOf (getD lines n []) ≤ℤ a → n < r .width
+  edge-passed n few h = by (decLt n (r .width))
+    where
+      by : Dec (n < r .width) → n < r .width
+      by (yes l) = l
+      by (no f) = let end = rw (d .laid .rest n (omega arith) few) at h in absurd (let none : ⊥ = omega zarith in none)
+
+  -- the edge before n is passed
+  pub passed-most : (n : ℕ) → n < lineLimit → ((k : ℕ) → n ≡ suc k → edgeOf (getD lines k []) ≤ℤ a) → n ≤ r .width
+  passed-most zero few left = omega arith
+  passed-most (suc k) few left = edge-passed k (omega arith) (left k refl)
+
+  -- and edge n is not
+  pub passed-count : (n : ℕ) → n < lineLimit → ((k : ℕ) → n ≡ suc k → edgeOf (getD lines k []) ≤ℤ a) → a <ℤ edgeOf (getD lines n [])
+      → n ≡ passed r (whole a)
+  passed-count n few left right =
+      let most = passed-most n few left in
+      sym (passed-is (d .drawn) a n most (λ k e. rw (← edge-is k (omega arith)) (left k e)) (λ l. rw (← edge-is n l) right))
