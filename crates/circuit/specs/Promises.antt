@@ -15,6 +15,8 @@ use Rattle.circuit.specs.declared.Answer.{Answer}
 use Rattle.circuit.specs.declared.Record.{Record}
 use Rattle.circuit.specs.declared.SetUp.{SetUp}
 use Rattle.circuit.specs.declared.Reading.{Reading}
+use Rattle.circuit.specs.declared.Opened.{Opened}
+use Rattle.circuit.specs.declared.Listed.{Listed}
 use Rattle.circuit.specs.declared.Progress.{Progress}
 use Rattle.circuit.specs.declared.Feed.{Feed}
 
@@ -33,6 +35,12 @@ pub record Reads (bytes : List ℕ) (s : Reading) : Type 0 where
   pub number : handed (s .answer) ≡ readReport bytes
   pub circuit : s .«record» ≡ readRecord bytes
 
+-- opening a file's bytes: what reading gives, and set-up's rows; of the record of zeros they are zeros
+pub record Opens (bytes : List ℕ) (s : Opened) : Type 0 where
+  pub number : handed (s .answer) ≡ readReport bytes
+  pub circuit : s .«record» ≡ readRecord bytes
+  pub rows : s .rows ≡ setUpRows (readRecord bytes)
+
 -- writing, with what the buffer holds afterwards
 pub record Writes (c : WriteCall) (a : Answer) (after : List ℕ) : Type 0 where
   pub number : handed a ≡ writeReport c
@@ -45,9 +53,11 @@ pub record Runs (c : Call) (p : Progress) (after : List ℤ) : Type 0 where
   pub waves : p .state .waves ≡ ran c .waves
   pub output : after ≡ ran c .output
 
--- listing a file's bytes: the length of the text, and what the buffer holds afterwards; bytes after the text stay as they were
-pub record Lists (bytes before : List ℕ) (n : ℕ) (after : List ℕ) : Type 0 where
-  pub size : n ≡ length (listing bytes)
+-- listing a file's bytes: what reading answers, the length of the text, and what the buffer holds afterwards; bytes after the text stay
+-- as they were
+pub record Lists (bytes before : List ℕ) (l : Listed) (after : List ℕ) : Type 0 where
+  pub number : handed (l .answer) ≡ readReport bytes
+  pub size : l .length ≡ length (listing bytes)
   pub text : after ≡ listing bytes ++ drop (length (listing bytes)) before
 
 -- an answer in words, likewise

@@ -10,6 +10,7 @@ ghost use lib.IntN.{natAbs};
 ghost use Rattle.circuit.specs.Counting.{within};
 ghost use Rattle.circuit.specs.Numbers.{handed};
 ghost use Rattle.circuit.specs.Record.{sourceLimit, isLeaf, isInput};
+ghost use Rattle.circuit.specs.SetUp.{nothing};
 ghost use Rattle.circuit.specs.Curve.{waveLimit};
 ghost use Rattle.circuit.specs.Run.{isReactive};
 ghost use Rattle.circuit.specs.File.{numberOf};
@@ -173,6 +174,18 @@ pub struct Prepared {
     pub ratio: u32,
 }
 
+impl Prepared {
+    // What a blank row prepares to, and every row of a refused record.
+    pub fn blank() -> Prepared
+        ensures { λ p. ⌜ p ≡ nothing ⌝ }
+    {
+        Prepared {
+            resistance: 0.0,
+            ratio: 0,
+        }
+    }
+}
+
 // The stored waves in microvolts, one for each row: 0 where the row is not reactive.
 pub struct State {
     pub waves: [i32; ROWS],
@@ -288,6 +301,19 @@ pub struct SetUp {
 pub struct Reading {
     pub answer: Answer,
     pub record: Record,
+}
+
+// What opening a file hands back: a reading, with the rows that set-up prepared; on refusal they are zeros too.
+pub struct Opened {
+    pub answer: Answer,
+    pub record: Record,
+    pub rows: [Prepared; ROWS],
+}
+
+// What listing a file hands back: what reading it answers, and how many bytes the text has.
+pub struct Listed {
+    pub answer: Answer,
+    pub length: usize,
 }
 
 // What a run hands back: how many samples are done, and the waves after them.

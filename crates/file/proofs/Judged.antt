@@ -7,13 +7,15 @@ use borrow.Author.Tests.{eqb-true, eq-eqb, ne-eqb, not-false}
 use mathlib.Core.Bool.{true, false, not}
 use mathlib.Core.List.{List, [], _∷_}
 use lib.Dec.{lit<}
-use lib.ListN.{length}
+use lib.ListN.{length, replicate}
 use Rattle.circuit.specs.Numbers.{handed, report, done, Rule, rule, judge, unless, passes}
-use Rattle.circuit.specs.SetUp.{setUpRules, setUpReport}
+use Rattle.circuit.specs.Counting.{every}
+use Rattle.circuit.specs.Record.{rowLimit, formRule, recordRules}
+use Rattle.circuit.specs.SetUp.{nothing, setUpRules, setUpReport, setUpRows}
 use Rattle.circuit.specs.File.{fileLength, blockLength, checkPlace, numberAt, checkOf, fileOf, recordOf, noRecord, fileLengthRule, blockAt, wrongCheck, checkRule, versionRule, clearFile, unusedBytesRule, fileRules, readRules, readReport, readRecord, WriteCall, writeRules, writeReport, bufferAfter}
-use Rattle.circuit.specs.Promises.{Reads, Writes}
+use Rattle.circuit.specs.Promises.{Opens, Writes}
 use Rattle.circuit.specs.declared.Answer.{Answer}
-use Rattle.circuit.specs.declared.Reading.{Reading}
+use Rattle.circuit.specs.declared.Opened.{Opened}
 use Rattle.laws.proofs.Counting.{unless-passes, lowest-passes, passes-lowest}
 use Rattle.laws.proofs.Judging.{Pass, Numbered, judge-pass, judge-fail, judge-at, judge-rest, judge-stop, judge-of, pass-done, zero-pass}
 
@@ -68,6 +70,11 @@ module _ (s : List ℕ) where
 
 -- ---- reading
 
+-- the record of zeros is refused
+none-prepared : setUpRows noRecord ≡ replicate rowLimit nothing
+unfolding setUpRows setUpReport setUpRules recordRules judge formRule noRecord every
+none-prepared = refl
+
 module _ (s : List ℕ) where
   pub judged-length : judge fileRules s .number ≡ 0 → length s ≡ fileLength
   unfolding fileRules fileLengthRule
@@ -87,13 +94,19 @@ module _ (s : List ℕ) where
   unfolding readRecord
   record-read e = rw (eq-eqb _ _ e)
 
-  -- what a reading is, by its number
-  pub reads-record : (got : Reading) → handed (got .answer) ≡ readReport s → handed (got .answer) .number ≡ 0 → got .«record» ≡ recordOf s → Reads s got
-  reads-record got e z f = record { number = e; circuit = f ∙ sym (record-read (ap (λ m. m .number) (sym e) ∙ z)) }
+  -- what an opening is, by its number
+  pub opens-record : (got : Opened) → handed (got .answer) ≡ readReport s → handed (got .answer) .number ≡ 0 → got .«record» ≡ recordOf s
+      → got .rows ≡ setUpRows (got .«record») → Opens s got
+  opens-record got e z f w =
+      let same = f ∙ sym (record-read (ap (λ m. m .number) (sym e) ∙ z)) in
+      record { number = e; circuit = same; rows = w ∙ ap setUpRows same }
 
-  pub reads-nothing : (got : Reading) (a : Answer) → (got .answer ≡ a) × (got .«record» ≡ noRecord) → handed a ≡ readReport s → (handed a .number ≡ 0 → ⊥) → Reads s got
+  pub opens-nothing : (got : Opened) (a : Answer) → (got .answer ≡ a) × (got .«record» ≡ noRecord) × (got .rows ≡ replicate rowLimit nothing)
+      → handed a ≡ readReport s → (handed a .number ≡ 0 → ⊥) → Opens s got
   unfolding readRecord
-  reads-nothing got a f e h = record { number = ap handed (f .0) ∙ e; circuit = f .1 ∙ rw (ne-eqb _ _ (λ z. h (ap (λ m. m .number) e ∙ z))) }
+  opens-nothing got a f e h =
+      let none : readRecord s ≡ noRecord = rw (ne-eqb _ _ (λ z. h (ap (λ m. m .number) e ∙ z))) in
+      record { number = ap handed (f .0) ∙ e; circuit = f .1 ∙ sym none; rows = f .2 ∙ sym (ap setUpRows none ∙ none-prepared) }
 
   -- where reading hands back 0, the bytes are accepted
   pub read-judged : readReport s .number ≡ 0 → judge fileRules s .number ≡ 0

@@ -9,16 +9,21 @@ mod rules;
 
 use circuit::Answer;
 use circuit::FILE_LENGTH;
+use circuit::Opened;
+use circuit::Prepared;
+use circuit::ROWS;
 use circuit::Reading;
 use circuit::Record;
 ghost use mathlib.Core.Path.{_≡_};
-ghost use lib.ListN.{length};
+ghost use lib.ListN.{length, replicate};
+ghost use Rattle.circuit.specs.Record.{rowLimit};
+ghost use Rattle.circuit.specs.SetUp.{nothing};
 ghost use Rattle.circuit.specs.File.{fileLength, noRecord, fileOf};
-ghost use Rattle.circuit.specs.Promises.{Reads, Writes};
+ghost use Rattle.circuit.specs.Promises.{Opens, Reads, Writes};
 
-// Reads the file that `s` is. On refusal the record is the one of zeros.
-pub fn read(s: &[u8]) -> Reading
-    ensures { λ r. ⌜ Reads (now (s .entry)) r ⌝ }
+// Reads the file that `s` is, and keeps the rows that set-up prepared of its record. On refusal the record and the rows are zeros.
+pub fn open(s: &[u8]) -> Opened
+    ensures { λ o. ⌜ Opens (now (s .entry)) o ⌝ }
 {
     let judged = rules::judged(s);
     if judged.number() != 0 {
@@ -30,14 +35,34 @@ pub fn read(s: &[u8]) -> Reading
     if answer.number() != 0 {
         return refused(answer);
     }
+    let rows = set_up.rows;
+    Opened {
+        answer,
+        record,
+        rows,
+    }
+}
+
+// Reads the file that `s` is, for a caller that needs no rows.
+pub fn read(s: &[u8]) -> Reading
+    ensures { λ r. ⌜ Reads (now (s .entry)) r ⌝ }
+{
+    let opened = open(s);
+    let answer = opened.answer;
+    let record = opened.record;
     Reading { answer, record }
 }
 
-fn refused(answer: Answer) -> Reading
-    ensures { λ r. ⌜ (r .answer ≡ answer) × (r .record ≡ noRecord) ⌝ }
+fn refused(answer: Answer) -> Opened
+    ensures { λ o. ⌜ (o .answer ≡ answer) × (o .record ≡ noRecord) × (o .rows ≡ replicate rowLimit nothing) ⌝ }
 {
     let record = heading::no_record();
-    Reading { answer, record }
+    let rows = [Prepared::blank(); ROWS];
+    Opened {
+        answer,
+        record,
+        rows,
+    }
 }
 
 // Writes the file of the record to `out`. On refusal `out` is left as it is.

@@ -24,13 +24,13 @@ fn main() {
     let mut bytes = [0u8; FILE_LENGTH + 1];
     let count = io::read_full(STDIN_FILENO, &mut bytes);
     let mut text = [0u8; ROOM];
-    let length = listing::list(&bytes[..count], &mut text);
+    let listed = listing::list(&bytes[..count], &mut text);
+    let length = listed.length;
     io::write_all(STDOUT_FILENO, &text[..length]);
     if count == 0 {
         say(b"usage: list < FILE, where FILE is a circuit file\n");
     } else {
-        let reading = file::read(&bytes[..count]);
-        let answer = reading.answer;
+        let answer = listed.answer;
         say_refusal(answer);
     }
 }

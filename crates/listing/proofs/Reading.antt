@@ -4,11 +4,12 @@ use lib.ListN.{length}
 use borrow.Author.Tests.{ne-eqb, eq-eqb}
 use mathlib.Core.Path.{_≡_, sym, ap, _∙_}
 use mathlib.Core.List.{List}
-use Rattle.circuit.specs.Numbers.{report}
+use Rattle.circuit.specs.Numbers.{handed, report}
 use Rattle.circuit.specs.SetUp.{setUpReport}
 use Rattle.circuit.specs.File.{readReport, recordOf}
 use Rattle.circuit.specs.Listing.{acceptedLines, refusedLine, listing}
 use Rattle.circuit.specs.Promises.{Lists}
+use Rattle.circuit.specs.declared.Listed.{Listed}
 use Rattle.file.proofs.Judged.{read-judged, read-on}
 use Rattle.listing.specs.Writing.{Puts}
 use Rattle.listing.proofs.Texts.{puts-as, starts, starts-bytes, ends-within}
@@ -27,9 +28,10 @@ module _ (s : List ℕ) where
   listing-refused n p number place h = rw (number, place, ne-eqb _ _ (λ e. h (number ∙ e)))
 
   -- the listing, at the start of the buffer
-  pub lists : {most n : ℕ} {t out after : List ℕ} → t ≡ listing s → Puts most t 0 out n after → Lists s out n after
-  lists e p = let q = puts-as p e in record { size = starts q; text = starts-bytes q }
+  pub lists : {l : Listed} {most : ℕ} {t out after : List ℕ} → handed (l .answer) ≡ readReport s → t ≡ listing s
+      → Puts most t 0 out (l .length) after → Lists s out l after
+  lists a e p = let q = puts-as p e in record { number = a; size = starts q; text = starts-bytes q }
 
 -- so it ends within the buffer
-pub listed-inside : {bytes before after : List ℕ} {n : ℕ} → Lists bytes before n after → n ≤ length after
+pub listed-inside : {bytes before after : List ℕ} {l : Listed} → Lists bytes before l after → l .length ≤ length after
 listed-inside {bytes} {before} h = ends-within (listing bytes) before (h .size) (h .text)

@@ -11,6 +11,7 @@ ghost use Rattle.circuit.specs.SetUp.{setUpReport, setUpRows};
 ghost use Rattle.circuit.specs.Listing.{listingRoom, acceptedLines};
 ghost use Rattle.circuit.specs.Promises.{Lists};
 ghost use Rattle.listing.specs.Writing.{Puts};
+use circuit::Listed;
 use circuit::Prepared;
 use circuit::ROWS;
 use circuit::Record;
@@ -32,19 +33,20 @@ fn put_accepted(out: &mut [u8], r: Record, prepared: [Prepared; ROWS]) -> usize
     put_rows(out, at, r, prepared)
 }
 
-// The listing of a file's bytes, at the start of `out`, and its length. The bytes after it stay as they were.
-pub fn list(s: &[u8], out: &mut Page) -> usize
-    ensures { λ n. ⌜ Lists (now (s .entry)) (now (out .entry)) n (now (out .exit)) ⌝ }
+// The listing of a file's bytes, at the start of `out`. The bytes after it stay as they were.
+pub fn list(s: &[u8], out: &mut Page) -> Listed
+    ensures { λ l. ⌜ Lists (now (s .entry)) (now (out .entry)) l (now (out .exit)) ⌝ }
 {
-    let reading = file::read(s);
-    let answer = reading.answer;
+    let opened = file::open(s);
+    let answer = opened.answer;
     let number = answer.number();
     if number != 0 {
         let place = answer.place();
-        return put_numbers(out, b"refused ", number, b" at ", place);
+        let length = put_numbers(out, b"refused ", number, b" at ", place);
+        return Listed { answer, length };
     }
-    let record = reading.record;
-    let made = setup::set_up(record);
-    let prepared = made.rows;
-    put_accepted(out, record, prepared)
+    let record = opened.record;
+    let prepared = opened.rows;
+    let length = put_accepted(out, record, prepared);
+    Listed { answer, length }
 }

@@ -16,7 +16,8 @@ fn list_file(name: &[u8]) {
     io::write_all(STDOUT_FILENO, name);
     io::write_all(STDOUT_FILENO, b"\n");
     let mut text = [0u8; ROOM];
-    let length = listing::list(&bytes[..count], &mut text);
+    let listed = listing::list(&bytes[..count], &mut text);
+    let length = listed.length;
     io::write_all(STDOUT_FILENO, &text[..length]);
 }
 

@@ -56,7 +56,7 @@ fn port_answer(r: Record, rows: [Prepared; ROWS]) -> Answer
 fn refused(a: Answer) -> SetUp
     ensures { λ s. ⌜ (s .answer ≡ a) × (s .rows ≡ replicate rowLimit nothing) ⌝ }
 {
-    let rows = [port::blank(); ROWS];
+    let rows = [Prepared::blank(); ROWS];
     SetUp { answer: a, rows }
 }
 

@@ -4,7 +4,7 @@ ghost use mathlib.Core.Path.{_≡_};
 ghost use Prim.Native.Nat.{ℕ};
 ghost use Rattle.circuit.specs.Numbers.{handed, report};
 ghost use Rattle.circuit.specs.Record.{rowLimit, partAt};
-ghost use Rattle.circuit.specs.SetUp.{nothing, inRange, leafResistance, joinedResistance, quotient, parts, scaledDown, ratioFault, fits, curveResistanceRule};
+ghost use Rattle.circuit.specs.SetUp.{inRange, leafResistance, joinedResistance, quotient, parts, scaledDown, ratioFault, fits, curveResistanceRule};
 ghost use Rattle.laws.specs.Accepted.{Lower};
 ghost use Rattle.laws.specs.Numbered.{numbered};
 ghost use Rattle.setup.specs.Ratio.{proper};
@@ -81,16 +81,6 @@ fn fits_top(q: f64, r: f64) -> bool
     (r * 1023.0 <= q * 1024.0) & (q * 1024.0 <= r * 1025.0)
 }
 
-// What a blank row prepares to, and every row of a refused record.
-pub(crate) fn blank() -> Prepared
-    ensures { λ p. ⌜ p ≡ nothing ⌝ }
-{
-    Prepared {
-        resistance: 0.0,
-        ratio: 0,
-    }
-}
-
 fn joined(join: Join, r1: f64, r2: f64) -> Prepared
     ensures { λ p. ⌜ p ≡ joinedRow join r1 r2 ⌝ }
 {
@@ -105,7 +95,7 @@ fn prepared_row(rate: u32, rows: [Prepared; ROWS], p: Part) -> Prepared
     ensures { λ q. ⌜ q ≡ preparedFrom rate rows p ⌝ }
 {
     match p {
-        Part::Blank => blank(),
+        Part::Blank => Prepared::blank(),
         Part::Leaf(e) => {
             let resistance = leaf_resistance(rate, e);
             Prepared {
@@ -127,7 +117,7 @@ pub(crate) fn prepared_rows(r: Record) -> [Prepared; ROWS]
     requires { ⌜ ((j : ℕ) → Lower j (partAt r j)) ⌝ }
     ensures { λ rows. ⌜ rows ≡ properRows r ⌝ }
 {
-    let mut rows = [blank(); ROWS];
+    let mut rows = [Prepared::blank(); ROWS];
     for j in 0..ROWS {
         let row = r.rows[j];
         let part = row.part;
