@@ -29,14 +29,16 @@ fn sound_wave(p: Part, w: i32) -> bool
     }
 }
 
-// The lowest row at fault; blank rows are looked at too.
+// The lowest row at fault; blank rows are looked at too. The rows alone are copied, not the record.
 fn stored_waves(r: Record, state: State) -> Answer
     ensures { λ a. ⌜ handed a ≡ numbered 12 (storedWavesRule r (state .waves)) ⌝ }
 {
+    let rows = r.rows;
+    let waves = state.waves;
     for j in 0..ROWS {
-        let row = r.rows[j];
+        let row = rows[j];
         let part = row.part;
-        if !sound_wave(part, state.waves[j]) {
+        if !sound_wave(part, waves[j]) {
             return Answer::Waves(j as u8);
         }
     }

@@ -1,114 +1,100 @@
 -- The rows that set-up fills. An adaptor's row follows from its children's, so rows filled from the lowest up are those of the record; rule 9
--- reads the same of a proper ratio as of the ratio itself; and where rule 9 passes the filled rows are the prepared rows.
+-- reads the same of a proper ratio as of the ratio itself; and where every ratio is proper the filled rows are the prepared rows.
 use Prim.Native.Nat.{ℕ, _-_, _≤_, _<_}
-use native.Mathlib.Decide.{decLt}
 use native.Mathlib.Omega.{arith}
 use mathlib.Core.Path.{_≡_, refl, sym, ap, ap₂, _∙_}
-use mathlib.Core.Bool.{Bool, true, false, not, and-false, and-eq-true-iff}
-use mathlib.Core.List.{List, map}
-use borrow.Author.Tests.{leb-true, ltb-false, lt-leb, not-false}
+use mathlib.Core.Bool.{Bool, true, false, not, and-false}
+use mathlib.Core.List.{List}
+use borrow.Author.Tests.{ltb-false, lt-leb}
 use lib.Dec.{leb, ltb}
-use lib.Ieee.{Float}
-use lib.ListN.{getD, length-map, List·getD-map}
+use lib.Ieee.{Float, nan}
+use lib.ListN.{getD}
 use Rattle.circuit.specs.Counting.{between, table}
-use Rattle.circuit.specs.Numbers.{passes}
+use Rattle.circuit.specs.Numbers.{lowest}
 use Rattle.circuit.specs.Record.{rowLimit, partAt}
-use Rattle.circuit.specs.SetUp.{parts, portOf, resistanceAt, ratioAt, preparedPart, preparedRows, ratioFault, ratioRule}
+use Rattle.circuit.specs.SetUp.{nothing, parts, portOf, inRange, resistanceAt, ratioAt, preparedPart, preparedRows, portResistanceRule, ratioFault, ratioRule}
 use Rattle.circuit.specs.declared.Part.{Part}
 use Rattle.circuit.specs.declared.Part.the-variants.{Blank, Leaf, Adaptor}
 use Rattle.circuit.specs.declared.Prepared.{Prepared}
 use Rattle.circuit.specs.declared.Record.{Record}
 use Rattle.laws.specs.Accepted.{Lower}
-use Rattle.laws.proofs.Counting.{length-table, getD-table, is-table, table-same, lowest-passes}
-use Rattle.laws.proofs.Trees.{tree-blank, tree-leaf, resistance-leaf, resistance-adaptor, ratio-adaptor}
+use Rattle.laws.proofs.Counting.{getD-table, table-same, lowest-same}
+use Rattle.laws.proofs.Trees.{tree-blank, tree-leaf, resistance-leaf, ratio-leaf, resistance-adaptor, ratio-adaptor}
 use Rattle.setup.specs.Ratio.{proper}
-use Rattle.setup.specs.Rows.{past, joinedRow, preparedFrom, properRow, properRows}
+use Rattle.setup.specs.Rows.{row, joinedRow, preparedFrom, Rooted, Filled}
 use Rattle.setup.proofs.Width.{proper-below}
-
--- what each of a table's entries becomes
-map-table : {A B : Type 0} (h : A → B) (f : ℕ → A) (n : ℕ) (d : A) → map h (table f n) ≡ table (λ j. h (f j)) n
-map-table h f n d =
-    is-table (λ j. h (f j)) (map h (table f n)) n (h d) (length-map (table f n) h ∙ length-table f n)
-    (λ j l. List·getD-map h (table f n) j d ∙ ap h (getD-table f n j d l))
 
 -- the record's row j, as set-up fills it
 abbrev pub filledRow : Record → ℕ → Prepared
-filledRow r j = properRow (preparedPart r j (partAt r j))
+filledRow r j = row (resistanceAt r j) (proper parts (ratioAt r j))
 
-pub filled-rows : (r : Record) → properRows r ≡ table (filledRow r) rowLimit
-unfolding properRows preparedRows
-filled-rows r = map-table properRow (λ j. preparedPart r j (partAt r j)) rowLimit past
+-- a row with a proper ratio: another one only where rule 9 refuses it
+abbrev properRow : Prepared → Prepared
+properRow q = row (q .resistance) (proper parts (q .ratio))
 
-module _ (r : Record) (lower : (j : ℕ) → Lower j (partAt r j)) where
-  -- ---- a row's resistance
+-- rule 9 reads the same of it
+same-fault : (p : Part) (g : ℕ) → ratioFault p (proper parts g) ≡ ratioFault p g
+same-fault Blank g = refl
+same-fault (Leaf x) g = refl
+same-fault (Adaptor a) g = ap not (choose (ltb g parts) refl)
+  where
+    choose : (b : Bool) → ltb g parts ≡ b → between 1 (parts - 1) (proper parts g) ≡ between 1 (parts - 1) g
+    choose true e = rw e refl
+    choose false e = let l : parts - 1 < g = omega (arith, ltb-false g parts e) in rw (e, lt-leb g (parts - 1) l) (sym (and-false (leb 1 g)))
 
-  prepared-resistance : (j : ℕ) (p : Part) → partAt r j ≡ p → preparedPart r j p .resistance ≡ resistanceAt r j
-  prepared-resistance j Blank e = sym (resistance-leaf r lower j (tree-blank r lower j e) ∙ ap (portOf (r .rate)) e)
-  prepared-resistance j (Leaf x) e = refl
-  prepared-resistance j (Adaptor a) e = refl
+module _ (r : Record) (rooted : Rooted r) where
+  lower : (j : ℕ) → Lower j (partAt r j)
+  lower = rooted .lower
 
-  -- ---- a row from those below it
+  -- a prepared row has its port's resistance and ratio, whatever its part is
+  port-row : (j : ℕ) (p : Part) → partAt r j ≡ p → preparedPart r j p ≡ row (resistanceAt r j) (ratioAt r j)
+  port-row j Blank e =
+      let t = tree-blank r lower j e in
+      sym (ap₂ row (resistance-leaf r lower j t ∙ ap (portOf (r .rate)) e) (ratio-leaf r lower j t))
+  port-row j (Leaf x) e = ap (row (resistanceAt r j)) (sym (ratio-leaf r lower j (tree-leaf r lower j x e)))
+  port-row j (Adaptor a) e = refl
 
-  pub fills : (rows : List Prepared) (j : ℕ) → ((k : ℕ) → k < j → getD rows k past ≡ filledRow r k)
-      → preparedFrom (r .rate) rows (partAt r j) ≡ filledRow r j
+  -- ---- filled from the lowest up
+
+  -- past the count there is nothing
+  pub filled-blank : (j : ℕ) → r .count ≤ j → filledRow r j ≡ nothing
+  filled-blank j l = let e = rooted .blank j l in ap properRow (sym (port-row j Blank e))
+
+  pub fills : (Rs : List Float) (j : ℕ) → ((k : ℕ) → k < j → getD Rs k nan ≡ resistanceAt r k) → preparedFrom (r .rate) (partAt r j) Rs ≡ filledRow r j
   unfolding preparedFrom Lower
-  fills rows j below = by (partAt r j) refl
+  fills Rs j below = by (partAt r j) refl
     where
-      child : (k : ℕ) → k < j → getD rows k past .resistance ≡ resistanceAt r k
-      child k l = ap (λ (q : Prepared). q .resistance) (below k l) ∙ prepared-resistance k (partAt r k) refl
-
-      by : (p : Part) → partAt r j ≡ p → preparedFrom (r .rate) rows p ≡ properRow (preparedPart r j p)
-      by Blank e = refl
-      by (Leaf x) e = ap (λ (R : Float). record { resistance = R; ratio = 0 }) (sym (resistance-leaf r lower j (tree-leaf r lower j x e) ∙ ap (portOf (r .rate)) e))
+      by : (p : Part) → partAt r j ≡ p → preparedFrom (r .rate) p Rs ≡ filledRow r j
+      by Blank e = ap properRow (port-row j Blank e)
+      by (Leaf x) e =
+          ap (λ R. row R 0) (sym (resistance-leaf r lower j (tree-leaf r lower j x e) ∙ ap (portOf (r .rate)) e)) ∙ ap properRow (port-row j (Leaf x) e)
       by (Adaptor a) e =
           let l = rw e at (lower j) in
-          ap₂ (joinedRow (a .join)) (child (a .first) (l .0)) (child (a .second) (l .1))
-          ∙ sym (ap₂ (λ (R : Float) (g : ℕ). record { resistance = R; ratio = proper parts g }) (resistance-adaptor r lower j a e) (ratio-adaptor r lower j a e))
+          ap₂ (joinedRow (a .join)) (below (a .first) (l .0)) (below (a .second) (l .1))
+          ∙ sym (ap₂ (λ R g. row R (proper parts g)) (resistance-adaptor r lower j a e) (ratio-adaptor r lower j a e))
 
   -- ---- what the rules read
 
-  module _ (rows : List Prepared) (all : rows ≡ properRows r) (j : ℕ) (inside : j < rowLimit) where
-    row-at : getD rows j past ≡ filledRow r j
-    row-at = ap (λ (l : List Prepared). getD l j past) (all ∙ filled-rows r) ∙ getD-table (filledRow r) rowLimit j past inside
+  module _ (Rs : List Float) (gs : List ℕ) (filled : Filled r Rs gs) where
+    pub resistance-at : (j : ℕ) → j < rowLimit → getD Rs j nan ≡ resistanceAt r j
+    resistance-at j l = ap (λ (x : List Float). getD x j nan) (filled .resistances) ∙ getD-table (resistanceAt r) rowLimit j nan l
 
-    pub resistance-at : getD rows j past .resistance ≡ resistanceAt r j
-    resistance-at = ap (λ (q : Prepared). q .resistance) row-at ∙ prepared-resistance j (partAt r j) refl
+    ratio-at : (j : ℕ) → j < rowLimit → getD gs j 0 ≡ proper parts (ratioAt r j)
+    ratio-at j l = ap (λ (x : List ℕ). getD x j 0) (filled .ratios) ∙ getD-table (λ k. proper parts (ratioAt r k)) rowLimit j 0 l
 
-    pub fault-at : ratioFault (partAt r j) (getD rows j past .ratio) ≡ ratioFault (partAt r j) (ratioAt r j)
-    fault-at = ap (λ (q : Prepared). ratioFault (partAt r j) (q .ratio)) row-at ∙ by (partAt r j)
-      where
-        same : (n : ℕ) → between 1 (parts - 1) (proper parts n) ≡ between 1 (parts - 1) n
-        same n = choose (ltb n parts) refl
-          where
-            choose : (b : Bool) → ltb n parts ≡ b → between 1 (parts - 1) (proper parts n) ≡ between 1 (parts - 1) n
-            choose true e = rw e refl
-            choose false e = let l : parts - 1 < n = omega (arith, ltb-false n parts e) in rw (e, lt-leb n (parts - 1) l) (sym (and-false (leb 1 n)))
+    pub resistance-rule : lowest (λ j. not (inRange (getD Rs j nan))) (r .count) ≡ portResistanceRule r
+    unfolding portResistanceRule
+    resistance-rule = lowest-same _ _ (r .count) (λ j l. ap (λ R. not (inRange R)) (resistance-at j (omega (arith, rooted .formed .short))))
 
-        by : (p : Part) → ratioFault p (properRow (preparedPart r j p) .ratio) ≡ ratioFault p (ratioAt r j)
-        by Blank = refl
-        by (Leaf x) = refl
-        by (Adaptor a) = ap not (same (ratioAt r j))
+    pub ratio-rule : lowest (λ j. ratioFault (partAt r j) (getD gs j 0)) (r .count) ≡ ratioRule r
+    unfolding ratioRule
+    ratio-rule =
+        lowest-same _ _ (r .count)
+        (λ j l. ap (ratioFault (partAt r j)) (ratio-at j (omega (arith, rooted .formed .short))) ∙ same-fault (partAt r j) (ratioAt r j))
 
--- ---- once rule 9 has passed
-
-module _ (r : Record) (blank : (j : ℕ) → r .count ≤ j → partAt r j ≡ Blank) (pass : ratioRule r ≡ passes) where
-  below-one : (j : ℕ) (p : Part) → partAt r j ≡ p → preparedPart r j p .ratio < parts
-  unfolding ratioRule
-  below-one j Blank e = omega arith
-  below-one j (Leaf x) e = omega arith
-  below-one j (Adaptor a) e = by (decLt j (r .count))
-    where
-      by : Dec (j < r .count) → ratioAt r j < parts
-      by (yes l) =
-          let between-them = not-false _ (rw e at (lowest-passes (λ k. ratioFault (partAt r k) (ratioAt r k)) (r .count) pass j l)) in
-          let fewer : ratioAt r j ≤ parts - 1 = leb-true (ratioAt r j) (parts - 1) (and-eq-true-iff (leb 1 (ratioAt r j)) (leb (ratioAt r j) (parts - 1)) .0 between-them .1) in
-          omega arith
-      by (no m) = absurd (is-blank (sym e ∙ blank j (omega arith)))
-        where
-          is-blank : Adaptor a ≡ Blank → ⊥
-          is-blank q = let z : _≡_ {A = ℕ} 0 1 = cc in omega arith
-
-  pub rows-proper : properRows r ≡ preparedRows r
-  unfolding preparedRows
-  rows-proper = filled-rows r ∙ table-same (filledRow r) (λ j. preparedPart r j (partAt r j)) rowLimit
-      (λ j l. ap (λ (g : ℕ). record { resistance = preparedPart r j (partAt r j) .resistance; ratio = g }) (sym (proper-below parts _ (below-one j (partAt r j) refl))))
+    -- where every ratio is proper
+    pub rows-prepared : ((j : ℕ) → ratioAt r j < parts) → table (λ j. row (getD Rs j nan) (getD gs j 0)) rowLimit ≡ preparedRows r
+    unfolding preparedRows
+    rows-prepared small =
+        table-same (λ j. row (getD Rs j nan) (getD gs j 0)) (λ j. preparedPart r j (partAt r j)) rowLimit
+        (λ j l. ap₂ row (resistance-at j l) (ratio-at j l ∙ sym (proper-below parts _ (small j))) ∙ sym (port-row j (partAt r j) refl))

@@ -1,4 +1,4 @@
 pub mod Answers
-pub mod Faults
 pub mod Ratio
 pub mod Rows
+pub mod Uses

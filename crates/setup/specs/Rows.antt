@@ -1,11 +1,12 @@
 -- The rows as set-up fills them, before rules 8 and 9 have looked at them.
-use Prim.Native.Nat.{ℕ}
+use Prim.Native.Nat.{ℕ, _≤_}
 use mathlib.Core.Path.{_≡_}
-use mathlib.Core.List.{List, map}
+use mathlib.Core.List.{List}
 use lib.ListN.{getD}
 use lib.Ieee.{Float, nan}
-use Rattle.circuit.specs.Record.{partAt}
-use Rattle.circuit.specs.SetUp.{nothing, leafResistance, joinedResistance, quotient, parts, scaledDown, preparedRows}
+use Rattle.circuit.specs.Counting.{table}
+use Rattle.circuit.specs.Record.{rowLimit, partAt}
+use Rattle.circuit.specs.SetUp.{nothing, leafResistance, joinedResistance, quotient, parts, scaledDown, resistanceAt, ratioAt}
 use Rattle.circuit.specs.declared.Join.{Join}
 use Rattle.circuit.specs.declared.Part.{Part}
 use Rattle.circuit.specs.declared.Part.the-variants.{Blank, Leaf, Adaptor}
@@ -15,29 +16,26 @@ use Rattle.laws.specs.Accepted.{Lower}
 use Rattle.laws.proofs.Formed.{Formed}
 use Rattle.setup.specs.Ratio.{proper}
 
--- what a read past the rows would give
-abbrev pub past : Prepared
-past = record { resistance = nan; ratio = 0 }
+abbrev pub row : Float → ℕ → Prepared
+row R g = record { resistance = R; ratio = g }
 
 -- an adaptor over children with these resistances
 abbrev pub joinedRow : Join → Float → Float → Prepared
-joinedRow k r1 r2 = record { resistance = joinedResistance k r1 r2; ratio = proper parts (scaledDown parts (quotient k r1 r2)) }
+joinedRow k r1 r2 = row (joinedResistance k r1 r2) (proper parts (scaledDown parts (quotient k r1 r2)))
 
--- a row from its part and the rows below it
-unfoldable pub preparedFrom : ℕ → List Prepared → Part → Prepared
-preparedFrom rate rows Blank = nothing
-preparedFrom rate rows (Leaf e) = record { resistance = leafResistance rate e; ratio = 0 }
-preparedFrom rate rows (Adaptor a) = joinedRow (a .join) (getD rows (a .first) past .resistance) (getD rows (a .second) past .resistance)
+-- a row from its part and the resistances of the rows below it
+unfoldable pub preparedFrom : ℕ → Part → List Float → Prepared
+preparedFrom rate Blank Rs = nothing
+preparedFrom rate (Leaf e) Rs = row (leafResistance rate e) 0
+preparedFrom rate (Adaptor a) Rs = joinedRow (a .join) (getD Rs (a .first) nan) (getD Rs (a .second) nan)
 
--- a prepared row with a proper ratio: another one only where rule 9 refuses it
-abbrev pub properRow : Prepared → Prepared
-properRow p = record { resistance = p .resistance; ratio = proper parts (p .ratio) }
-
-unfoldable pub properRows : Record → List Prepared
-properRows r = map properRow (preparedRows r)
-
--- what rules 8 to 11 rest on: what rules 4 and 6 have shown, and all rows filled
-pub record Filled (r : Record) (rows : List Prepared) : Type 0 where
+-- what filling the rows rests on: what rules 4 and 6 have shown
+pub record Rooted (r : Record) : Type 0 where
   pub formed : Formed r
   pub lower : (j : ℕ) → Lower j (partAt r j)
-  pub all : rows ≡ properRows r
+  pub blank : (j : ℕ) → r .count ≤ j → partAt r j ≡ Blank
+
+-- all rows filled; a ratio that is not proper is refused by rule 9
+pub record Filled (r : Record) (Rs : List Float) (gs : List ℕ) : Type 0 where
+  pub resistances : Rs ≡ table (resistanceAt r) rowLimit
+  pub ratios : gs ≡ table (λ j. proper parts (ratioAt r j)) rowLimit

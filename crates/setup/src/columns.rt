@@ -2,18 +2,16 @@
 
 ghost use mathlib.Core.Path.{_≡_};
 ghost use Prim.Native.Nat.{_<_, _≤_, _^_};
-ghost use mathlib.Core.Bool.{_&&_};
-ghost use lib.Dec.{leb};
+ghost use mathlib.Core.Bool.{not, _&&_, cond};
+ghost use lib.Dec.{eqb, leb};
 ghost use lib.IntN.{pos, _-ℤ_, natAbs};
 ghost use lib.Signed.{ltZ};
-ghost use Rattle.circuit.specs.Counting.{some};
-ghost use Rattle.circuit.specs.Numbers.{handed, unless};
+ghost use Rattle.circuit.specs.Counting.{within, some};
+ghost use Rattle.circuit.specs.Numbers.{handed, unless, lowest};
 ghost use Rattle.circuit.specs.Record.{columnAt, columnLimit, atOrigin};
-ghost use Rattle.circuit.specs.Curve.{beside, starts, soundColumn, passesOrigin, columnRule};
-ghost use Rattle.laws.proofs.Formed.{Formed};
+ghost use Rattle.circuit.specs.Curve.{waveLimit, beside, starts, soundColumn, passesOrigin, columnRule};
 ghost use Rattle.laws.specs.Numbered.{numbered};
-use crate::search::Fault;
-use crate::search::lowest_fault;
+ghost use Rattle.laws.proofs.Formed.{Formed};
 use circuit::Answer;
 use circuit::Column;
 use circuit::CurveKind;
@@ -60,28 +58,46 @@ fn may_start(kind: CurveKind, c: Column) -> bool
     }
 }
 
-pub(crate) fn sound_column(r: Record, i: usize) -> bool
-    requires { ⌜ i < columnLimit ⌝ }
-    ensures { λ b. ⌜ b ≡ soundColumn r i ⌝ }
+// Column i, with the one before it; column 0 has none.
+fn sound_column(kind: CurveKind, i: u8, before: Column, here: Column) -> bool
+    ensures { λ b. ⌜ b ≡ (within waveLimit (here .x) && cond (eqb i 0) (starts kind here) (beside before here)) ⌝ }
 {
-    let here = r.columns[i];
     if i == 0 {
-        let kind = r.kind;
         in_wave_limit(here.x) & may_start(kind, here)
     } else {
-        let before = r.columns[i - 1];
         in_wave_limit(here.x) & stands_beside(before, here)
     }
+}
+
+fn lowest_column(r: Record) -> Answer
+    requires { ⌜ Formed r ⌝ }
+    ensures { λ a. ⌜ handed a ≡ numbered 10 (lowest (λ i. not (soundColumn r i)) (r .width)) ⌝ }
+{
+    let kind = r.kind;
+    let columns = r.columns;
+    let width = r.width;
+    let mut last = 0;
+    for i in 0..width {
+        let at = i as usize;
+        let before = columns[last];
+        let here = columns[at];
+        if !sound_column(kind, i, before, here) {
+            return Answer::Curve(i);
+        }
+        last = at;
+    }
+    Answer::Done
 }
 
 fn has_origin(r: Record) -> bool
     requires { ⌜ r .width ≤ columnLimit ⌝ }
     ensures { λ b. ⌜ b ≡ some (λ i. atOrigin (columnAt r i)) (r .width) ⌝ }
 {
+    let columns = r.columns;
     let width = r.width as usize;
     let mut found = false;
     for i in 0..width {
-        let here = r.columns[i];
+        let here = columns[i];
         found = found | at_origin(here);
     }
     found
@@ -115,5 +131,5 @@ pub(crate) fn column_rule(r: Record) -> Answer
     requires { ⌜ Formed r ⌝ }
     ensures { λ a. ⌜ handed a ≡ numbered 10 (columnRule r) ⌝ }
 {
-    lowest_fault(Fault::Column, r).or(origin_rule(r))
+    lowest_column(r).or(origin_rule(r))
 }

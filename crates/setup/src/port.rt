@@ -1,15 +1,18 @@
 // Port resistances and ratios in f64, a row after the rows below it, and rules 8, 9 and 11.
 
 ghost use mathlib.Core.Path.{_≡_};
-ghost use Prim.Native.Nat.{ℕ};
-ghost use Rattle.circuit.specs.Numbers.{handed, report};
+ghost use mathlib.Core.Bool.{not};
+ghost use Prim.Native.Nat.{_≤_};
+ghost use lib.Ieee.{nan};
+ghost use lib.ListN.{getD};
+ghost use Rattle.circuit.specs.Counting.{table};
+ghost use Rattle.circuit.specs.Numbers.{handed, unless, lowest};
 ghost use Rattle.circuit.specs.Record.{rowLimit, partAt};
-ghost use Rattle.circuit.specs.SetUp.{inRange, leafResistance, joinedResistance, quotient, parts, scaledDown, ratioFault, fits, curveResistanceRule};
+ghost use Rattle.circuit.specs.SetUp.{inRange, leafResistance, joinedResistance, quotient, parts, scaledDown, ratioFault, fits};
 ghost use Rattle.laws.specs.Accepted.{Lower};
 ghost use Rattle.laws.specs.Numbered.{numbered};
 ghost use Rattle.setup.specs.Ratio.{proper};
-ghost use Rattle.setup.specs.Faults.{faultOf, portNumber, portRule};
-ghost use Rattle.setup.specs.Rows.{joinedRow, preparedFrom, properRows, Filled};
+ghost use Rattle.setup.specs.Rows.{row, joinedRow, preparedFrom, Rooted, Filled};
 use circuit::Answer;
 use circuit::Element;
 use circuit::Join;
@@ -89,10 +92,10 @@ fn joined(join: Join, r1: f64, r2: f64) -> Prepared
     Prepared { resistance, ratio }
 }
 
-// A row from the rows below it.
-fn prepared_row(rate: u32, rows: [Prepared; ROWS], p: Part) -> Prepared
+// A row from the resistances of the rows below it.
+fn prepared_row(rate: u32, p: Part, resistances: &[f64; ROWS]) -> Prepared
     requires { ⌜ Lower rowLimit p ⌝ }
-    ensures { λ q. ⌜ q ≡ preparedFrom rate rows p ⌝ }
+    ensures { λ q. ⌜ q ≡ preparedFrom rate p (now (resistances .entry)) ⌝ }
 {
     match p {
         Part::Blank => Prepared::blank(),
@@ -104,34 +107,70 @@ fn prepared_row(rate: u32, rows: [Prepared; ROWS], p: Part) -> Prepared
             }
         }
         Part::Adaptor(a) => {
-            let first = rows[a.first as usize];
-            let second = rows[a.second as usize];
             let join = a.join;
-            joined(join, first.resistance, second.resistance)
+            joined(
+                join,
+                resistances[a.first as usize],
+                resistances[a.second as usize],
+            )
         }
     }
 }
 
-// Every row, from the lowest up: an adaptor's children are lower than it.
-pub(crate) fn prepared_rows(r: Record) -> [Prepared; ROWS]
-    requires { ⌜ ((j : ℕ) → Lower j (partAt r j)) ⌝ }
-    ensures { λ rows. ⌜ rows ≡ properRows r ⌝ }
+// Every row's port resistance and ratio, each an array of numbers, which can be lent.
+pub(crate) struct Ports {
+    pub resistances: [f64; ROWS],
+    pub ratios: [u32; ROWS],
+}
+
+// From the lowest row up: an adaptor's children are lower than it. Rows past the count are blank.
+pub(crate) fn ports_of(r: Record) -> Ports
+    requires { ⌜ Rooted r ⌝ }
+    ensures { λ p. ⌜ Filled r (p .resistances) (p .ratios) ⌝ }
+{
+    let rows = r.rows;
+    let count = r.count as usize;
+    let mut resistances = [0.0; ROWS];
+    let mut ratios = [0; ROWS];
+    for j in 0..count {
+        let row = rows[j];
+        let part = row.part;
+        let own = prepared_row(r.rate, part, &resistances);
+        resistances[j] = own.resistance;
+        ratios[j] = own.ratio;
+    }
+    Ports {
+        resistances,
+        ratios,
+    }
+}
+
+pub(crate) fn prepared_rows(resistances: &[f64; ROWS], ratios: &[u32; ROWS]) -> [Prepared; ROWS]
+    ensures { λ rows. ⌜ rows ≡ table (λ j. row (getD (now (resistances .entry)) j nan) (getD (now (ratios .entry)) j 0)) rowLimit ⌝ }
 {
     let mut rows = [Prepared::blank(); ROWS];
     for j in 0..ROWS {
-        let row = r.rows[j];
-        let part = row.part;
-        rows[j] = prepared_row(r.rate, rows, part);
+        rows[j] = Prepared {
+            resistance: resistances[j],
+            ratio: ratios[j],
+        };
     }
     rows
 }
 
-// A resistance out of range; a ratio of no part or of all, which only an adaptor can have.
-pub(crate) enum PortFault {
-    Resistance,
-    Ratio,
+pub(crate) fn resistance_rule(count: u8, resistances: &[f64; ROWS]) -> Answer
+    requires { ⌜ count ≤ rowLimit ⌝ }
+    ensures { λ a. ⌜ handed a ≡ numbered 8 (lowest (λ j. not (inRange (getD (now (resistances .entry)) j nan))) count) ⌝ }
+{
+    for j in 0..count {
+        if !in_range(resistances[j as usize]) {
+            return Answer::Resistance(j);
+        }
+    }
+    Answer::Done
 }
 
+// A ratio of no part or of all, which only an adaptor can have.
 fn ratio_fault(p: Part, ratio: u32) -> bool
     ensures { λ b. ⌜ b ≡ ratioFault p ratio ⌝ }
 {
@@ -142,48 +181,26 @@ fn ratio_fault(p: Part, ratio: u32) -> bool
     }
 }
 
-fn row_fault(f: PortFault, p: Part, row: Prepared) -> bool
-    ensures { λ b. ⌜ b ≡ faultOf f p row ⌝ }
+pub(crate) fn ratio_rule(r: Record, ratios: &[u32; ROWS]) -> Answer
+    requires { ⌜ r .count ≤ rowLimit ⌝ }
+    ensures { λ a. ⌜ handed a ≡ numbered 9 (lowest (λ j. ratioFault (partAt r j) (getD (now (ratios .entry)) j 0)) (r .count)) ⌝ }
 {
-    match f {
-        PortFault::Resistance => !in_range(row.resistance),
-        PortFault::Ratio => ratio_fault(p, row.ratio),
-    }
-}
-
-fn answer_at(f: PortFault, j: u8) -> Answer
-    ensures { λ a. ⌜ handed a ≡ report (portNumber f) j ⌝ }
-{
-    match f {
-        PortFault::Resistance => Answer::Resistance(j),
-        PortFault::Ratio => Answer::Ratio(j),
-    }
-}
-
-// The lowest row at fault.
-pub(crate) fn lowest_port(f: PortFault, r: Record, rows: [Prepared; ROWS]) -> Answer
-    requires { ⌜ Filled r rows ⌝ }
-    ensures { λ a. ⌜ handed a ≡ numbered (portNumber f) (portRule f r) ⌝ }
-{
+    let rows = r.rows;
     let count = r.count;
     for j in 0..count {
-        let row = r.rows[j as usize];
+        let row = rows[j as usize];
         let part = row.part;
-        let here = rows[j as usize];
-        if row_fault(f, part, here) {
-            return answer_at(f, j);
+        if ratio_fault(part, ratios[j as usize]) {
+            return Answer::Ratio(j);
         }
     }
     Answer::Done
 }
 
-pub(crate) fn curve_resistance(r: Record, rows: [Prepared; ROWS]) -> Answer
-    requires { ⌜ Filled r rows ⌝ }
-    ensures { λ a. ⌜ handed a ≡ numbered 11 (curveResistanceRule r) ⌝ }
+pub(crate) fn curve_resistance_rule(q: f64, top: f64) -> Answer
+    ensures { λ a. ⌜ handed a ≡ numbered 11 (unless (fits q top) 0) ⌝ }
 {
-    let last = r.count - 1;
-    let top = rows[last as usize];
-    if fits_top(r.resistance, top.resistance) {
+    if fits_top(q, top) {
         Answer::Done
     } else {
         Answer::Fit

@@ -2,11 +2,14 @@
 // tap is a leaf or the top.
 
 ghost use mathlib.Core.Path.{_≡_};
-ghost use Prim.Native.Nat.{_≤_};
+ghost use Prim.Native.Nat.{ℕ, _+_, _<_, _≤_, min};
+ghost use lib.ListN.{getD};
 ghost use Rattle.circuit.specs.Counting.{one};
 ghost use Rattle.circuit.specs.Numbers.{handed};
-ghost use Rattle.circuit.specs.Record.{rowLimit, partAt, notLower, names as namesOf, uses as usesOf, inputs as inputsOf, inputAndTapRule};
+ghost use Rattle.circuit.specs.Record.{rowLimit, partAt, notLower, childrenRule, uses as usesOf, usedOnceRule, inputs as inputsOf, inputAndTapRule};
 ghost use Rattle.laws.specs.Numbered.{numbered};
+ghost use Rattle.laws.proofs.Formed.{Formed};
+ghost use Rattle.setup.specs.Uses.{useMore, usesBy};
 use circuit::Answer;
 use circuit::NO_ROW;
 use circuit::Part;
@@ -14,20 +17,8 @@ use circuit::ROWS;
 use circuit::Record;
 use circuit::TOP;
 
-// A row's part; past the last row there are blank ones.
-pub(crate) fn part_at(r: Record, j: usize) -> Part
-    ensures { λ p. ⌜ p ≡ partAt r j ⌝ }
-{
-    if j < ROWS {
-        let row = r.rows[j];
-        row.part
-    } else {
-        Part::Blank
-    }
-}
-
 // An adaptor whose children are not both lower.
-pub(crate) fn not_lower(j: u8, p: Part) -> bool
+fn not_lower(j: u8, p: Part) -> bool
     ensures { λ b. ⌜ b ≡ notLower j p ⌝ }
 {
     match p {
@@ -37,53 +28,120 @@ pub(crate) fn not_lower(j: u8, p: Part) -> bool
     }
 }
 
+pub(crate) fn children_rule(r: Record) -> Answer
+    requires { ⌜ Formed r ⌝ }
+    ensures { λ a. ⌜ handed a ≡ numbered 6 (childrenRule r) ⌝ }
+{
+    let rows = r.rows;
+    let count = r.count;
+    for j in 0..count {
+        let row = rows[j as usize];
+        let part = row.part;
+        if not_lower(j, part) {
+            return Answer::Tree(j);
+        }
+    }
+    Answer::Done
+}
+
+// One use more. Two stands for any number above it: only one is right.
+fn one_more(n: u8) -> u8
+    ensures { λ m. ⌜ m ≡ min 2 (n + 1) ⌝ }
+{
+    if n < 2 { n + 1 } else { 2 }
+}
+
+// One use more of row k, where there is such a row.
+fn use_row(uses: &mut [u8; ROWS], k: u8)
+    ensures { λ r. ⌜ now (uses .exit) ≡ useMore k (now (uses .entry)) ⌝ }
+{
+    let at = k as usize;
+    if at < ROWS {
+        uses[at] = one_more(uses[at]);
+    }
+}
+
+// An adaptor uses its two children.
+fn use_children(uses: &mut [u8; ROWS], p: Part)
+    ensures { λ r. ⌜ now (uses .exit) ≡ usesBy p (now (uses .entry)) ⌝ }
+{
+    match p {
+        Part::Blank => {}
+        Part::Leaf(_) => {}
+        Part::Adaptor(a) => {
+            use_row(uses, a.first);
+            use_row(uses, a.second);
+        }
+    }
+}
+
+// How often each row is a child, by one look at each row.
+fn uses(r: Record) -> [u8; ROWS]
+    requires { ⌜ r .count ≤ rowLimit ⌝ }
+    ensures { λ us. ⌜ ((k : ℕ) → k < rowLimit → getD us k 0 ≡ min 2 (usesOf r k)) ⌝ }
+{
+    let rows = r.rows;
+    let count = r.count as usize;
+    let mut uses = [0; ROWS];
+    for j in 0..count {
+        let row = rows[j];
+        let part = row.part;
+        use_children(&mut uses, part);
+    }
+    uses
+}
+
+// The last row is nobody's child.
+pub(crate) fn used_once_rule(r: Record) -> Answer
+    requires { ⌜ Formed r ⌝ }
+    ensures { λ a. ⌜ handed a ≡ numbered 6 (usedOnceRule r) ⌝ }
+{
+    let uses = uses(r);
+    let last = r.count - 1;
+    for k in 0..last {
+        if uses[k as usize] != 1 {
+            return Answer::Tree(k);
+        }
+    }
+    Answer::Done
+}
+
 fn one_if(b: bool) -> usize
     ensures { λ n. ⌜ n ≡ one b ⌝ }
 {
     if b { 1 } else { 0 }
 }
 
-// How often a part has row k for a child.
-fn names(p: Part, k: u8) -> usize
-    ensures { λ n. ⌜ n ≡ namesOf p k ⌝ }
-{
-    match p {
-        Part::Blank => 0,
-        Part::Leaf(_) => 0,
-        Part::Adaptor(a) => one_if(a.first == k) + one_if(a.second == k),
-    }
-}
-
-pub(crate) fn uses(r: Record, k: u8) -> usize
-    requires { ⌜ r .count ≤ rowLimit ⌝ }
-    ensures { λ n. ⌜ n ≡ usesOf r k ⌝ }
-{
-    let count = r.count as usize;
-    let mut n: usize = 0;
-    for j in 0..count {
-        let row = r.rows[j];
-        let part = row.part;
-        n = n + names(part, k);
-    }
-    n
-}
-
 fn inputs(r: Record) -> usize
     requires { ⌜ r .count ≤ rowLimit ⌝ }
     ensures { λ n. ⌜ n ≡ inputsOf r ⌝ }
 {
+    let rows = r.rows;
     let count = r.count as usize;
     let mut n: usize = 0;
     for j in 0..count {
-        let row = r.rows[j];
+        let row = rows[j];
         let part = row.part;
         n = n + one_if(part.is_input());
     }
     n
 }
 
-pub(crate) fn input_and_tap(r: Record) -> Answer
-    requires { ⌜ r .count ≤ rowLimit ⌝ }
+// A row's part; past the last row there are blank ones.
+fn part_at(r: Record, j: usize) -> Part
+    ensures { λ p. ⌜ p ≡ partAt r j ⌝ }
+{
+    let rows = r.rows;
+    if j < ROWS {
+        let row = rows[j];
+        row.part
+    } else {
+        Part::Blank
+    }
+}
+
+pub(crate) fn input_and_tap_rule(r: Record) -> Answer
+    requires { ⌜ Formed r ⌝ }
     ensures { λ a. ⌜ handed a ≡ numbered 6 (inputAndTapRule r) ⌝ }
 {
     let tap = r.tap;

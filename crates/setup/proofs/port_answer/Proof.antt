@@ -1,16 +1,21 @@
 -- `setup::port_answer` meets its contract: each answer is first to those after it, as its rule is.
+use Prim.Native.Nat.{_-_}
+use native.Mathlib.Omega.{arith}
 use mathlib.Core.Path.{ap, _∙_}
-use mathlib.Core.List.{[], _∷_}
 use borrow.Author.Needs.{needs}
+use lib.Ieee.{Float}
 use Rattle.circuit.specs.Curve.{columnRule}
-use Rattle.circuit.specs.Numbers.{handed, rule}
-use Rattle.circuit.specs.SetUp.{portResistanceRule, ratioRule, curveResistanceRule, portRules}
+use Rattle.circuit.specs.Numbers.{handed, unless}
+use Rattle.circuit.specs.Record.{lastRow}
+use Rattle.circuit.specs.SetUp.{fits, portResistanceRule, ratioRule, curveResistanceRule, portRules}
+use Rattle.laws.specs.Numbered.{numbered}
 use Rattle.laws.proofs.Chain.{first-judges, last-judges}
+use Rattle.setup.proofs.Rows.{resistance-at, resistance-rule, ratio-rule}
 use Rattle.setup.proofs.port_answer.Statement.{statement}
 use Rattle.setup.proofs.port_answer.Tie as tie
 
 returns : tie.Need-returns
-unfolding portRules
+unfolding portRules curveResistanceRule lastRow
 returns c =
     let second = c .before in
     let last = second .before in
@@ -18,14 +23,19 @@ returns c =
     let drawn = fitted .before in
     let rated = drawn .before in
     let ranged = rated .before in
-    let r = ranged .before .args .r in
-    let at11 = last-judges 11 curveResistanceRule r _ (fitted .curve-resistance .ensures) in
-    let at10 = ap handed (last .or .ensures) ∙ first-judges 9 columnRule (rule 11 curveResistanceRule ∷ []) r _ _ (drawn .column-rule .ensures) at11 in
-    let at9 = ap handed (second .or2 .ensures) ∙ first-judges 8 ratioRule (rule 10 columnRule ∷ rule 11 curveResistanceRule ∷ []) r _ _ (rated .lowest-port2 .ensures) at10 in
-    ap handed (c .or3 .ensures) ∙ first-judges 7 portResistanceRule (rule 9 ratioRule ∷ rule 10 columnRule ∷ rule 11 curveResistanceRule ∷ []) r _ _ (ranged .lowest-port .ensures) at9
+    let start = ranged .before .before .before in
+    let r = start .args .r in
+    let rooted = start .pre .0 in
+    let at = resistance-at r rooted (start .args .resistances .now) (start .args .ratios .now) (start .pre .1) (r .count - 1) (omega (arith, rooted .formed .short)) in
+    let fit = last-judges 11 curveResistanceRule r _ (fitted .curve-resistance-rule .ensures ∙ ap (λ (R : Float). numbered 11 (unless (fits (r .resistance) R) 0)) at) in
+    let curve = ap handed (last .or .ensures) ∙ first-judges 9 columnRule _ r _ _ (drawn .column-rule .ensures) fit in
+    let ratio = ap handed (second .or2 .ensures)
+    ∙ first-judges 8 ratioRule _ r _ _ (rated .ratio-rule .ensures ∙ ap (numbered 9) (ratio-rule r rooted _ _ (start .pre .1))) curve in
+    ap handed (c .or3 .ensures)
+    ∙ first-judges 7 portResistanceRule _ r _ _ (ranged .resistance-rule .ensures ∙ ap (numbered 8) (resistance-rule r rooted _ _ (start .pre .1))) ratio
 
 pub port-answer-spec : {M : Type 1} → statement M
 port-answer-spec =
     tie.close
-    (tie.spec (λ c κs. search needs) (λ c κs. search needs) (λ c κs. search needs) (λ c κs. search needs) (λ c κs. search needs)
-    (λ c κs. search needs) (λ c κs. search needs) returns)
+    (tie.spec (λ c. search needs) (λ c. search needs) (λ c. search needs) (λ c. search needs) (λ c κs. search needs) (λ c κs. search needs)
+    (λ c κs. search needs) (λ c κs. search needs) (λ c κs. search needs) (λ c κs. search needs) (λ c κs. search needs) returns)

@@ -1,16 +1,15 @@
 -- `setup::tree_answer` meets its contract: each answer is first to those after it, as its rule is.
 use mathlib.Core.Path.{ap, _∙_}
-use mathlib.Core.List.{[], _∷_}
 use borrow.Author.Needs.{needs}
-use Rattle.circuit.specs.Numbers.{handed, rule}
+use Rattle.circuit.specs.Numbers.{handed}
 use Rattle.circuit.specs.Record.{rateRule, childrenRule, usedOnceRule, inputAndTapRule, valueRule, recordRules}
-use Rattle.setup.specs.Answers.{treeRules}
 use Rattle.laws.proofs.Chain.{first-judges, last-judges}
+use Rattle.setup.specs.Answers.{treeRules}
 use Rattle.setup.proofs.tree_answer.Statement.{statement}
 use Rattle.setup.proofs.tree_answer.Tie as tie
 
 returns : tie.Need-returns
-unfolding treeRules recordRules childrenRule usedOnceRule valueRule
+unfolding treeRules recordRules
 returns c =
     let third = c .before in
     let second = third .before in
@@ -21,11 +20,11 @@ returns c =
     let lower = once .before in
     let rated = lower .before in
     let r = rated .before .args .r in
-    let at7 = last-judges 7 valueRule r _ (valued .lowest-fault3 .ensures) in
-    let tap = ap handed (last .or .ensures) ∙ first-judges 5 inputAndTapRule (rule 7 valueRule ∷ []) r _ _ (tapped .input-and-tap .ensures) at7 in
-    let uses = ap handed (second .or2 .ensures) ∙ first-judges 5 usedOnceRule (rule 6 inputAndTapRule ∷ rule 7 valueRule ∷ []) r _ _ (once .lowest-fault2 .ensures) tap in
-    let tree = ap handed (third .or3 .ensures) ∙ first-judges 5 childrenRule (rule 6 usedOnceRule ∷ rule 6 inputAndTapRule ∷ rule 7 valueRule ∷ []) r _ _ (lower .lowest-fault .ensures) uses in
-    ap handed (c .or4 .ensures) ∙ first-judges 4 rateRule (rule 6 childrenRule ∷ rule 6 usedOnceRule ∷ rule 6 inputAndTapRule ∷ rule 7 valueRule ∷ []) r _ _ (rated .rate .ensures) tree
+    let value = last-judges 7 valueRule r _ (valued .value-rule .ensures) in
+    let tap = ap handed (last .or .ensures) ∙ first-judges 5 inputAndTapRule _ r _ _ (tapped .input-and-tap-rule .ensures) value in
+    let uses = ap handed (second .or2 .ensures) ∙ first-judges 5 usedOnceRule _ r _ _ (once .used-once-rule .ensures) tap in
+    let tree = ap handed (third .or3 .ensures) ∙ first-judges 5 childrenRule _ r _ _ (lower .children-rule .ensures) uses in
+    ap handed (c .or4 .ensures) ∙ first-judges 4 rateRule _ r _ _ (rated .rate-rule .ensures) tree
 
 pub tree-answer-spec : {M : Type 1} → statement M
 tree-answer-spec =

@@ -1,12 +1,12 @@
--- `setup::tree::input_and_tap` meets its contract: its test is the definition's.
+-- `setup::tree::input_and_tap_rule` meets its contract: its test is the definition's.
 use mathlib.Core.Path.{sym, ap}
 use mathlib.Core.Bool.{Bool}
 use borrow.Author.Needs.{needs}
 use Rattle.circuit.specs.Numbers.{handed, unless}
 use Rattle.circuit.specs.Record.{noRow, inputAndTapRule}
 use Rattle.laws.specs.Numbered.{numbered}
-use Rattle.setup.proofs.tree.input_and_tap.Statement.{statement}
-use Rattle.setup.proofs.tree.input_and_tap.Tie as tie
+use Rattle.setup.proofs.tree.input_and_tap_rule.Statement.{statement}
+use Rattle.setup.proofs.tree.input_and_tap_rule.Tie as tie
 
 returns : tie.Need-returns
 unfolding handed inputAndTapRule
@@ -22,5 +22,5 @@ returns-2 c =
     rw (← at .before .inputs .ensures, ← at .part-at .ensures, ← c .before .is-leaf .ensures)
     (ap (λ (b : Bool). numbered 6 (unless b noRow)) (sym (c .if1 .left)))
 
-pub input-and-tap-spec : {M : Type 1} → statement M
-input-and-tap-spec = tie.close (tie.spec (λ c κs. search needs) (λ c. search needs) (λ c κs. search needs) (λ c κs. search needs) returns returns-2)
+pub input-and-tap-rule-spec : {M : Type 1} → statement M
+input-and-tap-rule-spec = tie.close (tie.spec (λ c κs. search needs) (λ c. search needs) (λ c κs. search needs) (λ c κs. search needs) returns returns-2)

@@ -1,0 +1,49 @@
+-- `setup::form::form_rule` meets its contract: its tests are the definition's.
+use Prim.Native.Nat.{_≤_}
+use mathlib.Core.Path.{_≡_, refl, sym, ap, _∙_}
+use mathlib.Core.Bool.{Bool, true, _&&_, and-eq-true-iff}
+use lib.Dec.{leb}
+use borrow.Author.Needs.{needs}
+use borrow.Author.Tests.{leb-true, not-true, not-false}
+use Rattle.circuit.specs.Numbers.{handed, unless}
+use Rattle.circuit.specs.Record.{rowLimit, columnLimit, isSet, formRule}
+use Rattle.laws.specs.Numbered.{numbered}
+use Rattle.setup.proofs.form.form_rule.Statement.{statement}
+use Rattle.setup.proofs.form.form_rule.Tie as tie
+
+both-limits : (a b c d e : Bool) → (a && b && (c && d) && e) ≡ true → (b ≡ true) × (d ≡ true)
+both-limits a b c d e h =
+    let counts = and-eq-true-iff (a && b) (c && d) .0 (and-eq-true-iff (a && b && (c && d)) e .0 h .0) in
+    (and-eq-true-iff a b .0 (counts .0) .1, and-eq-true-iff c d .0 (counts .1) .1)
+
+room : (c : tie.Else1) → (c .before .before .args .r .count ≤ rowLimit) × (c .before .before .args .r .width ≤ columnLimit)
+room c =
+    let r = c .before .before .args .r in
+    let h = sym (c .before .has-counts .ensures) ∙ not-false (c .before .has-counts .result) (c .if1 .left) in
+    let limits = both-limits (leb 1 (r .count)) (leb (r .count) rowLimit) (leb 2 (r .width)) (leb (r .width) columnLimit) (isSet (r .kind)) h in
+    (leb-true (r .count) rowLimit (limits .0), leb-true (r .width) columnLimit (limits .1))
+
+returns : tie.Need-returns
+unfolding handed formRule
+returns c = rw (← c .before .has-counts .ensures, not-true (c .before .has-counts .result) (c .if1 .taken)) refl
+
+returns-2 : tie.Need-returns-2
+unfolding handed formRule
+returns-2 c =
+    let at = c .before .before in
+    let counts = at .before .before .has-counts in
+    rw (← counts .ensures, not-false (counts .result) (at .before .if1 .left), ← at .blank-rows .ensures, ← c .before .blank-columns .ensures)
+    (ap (λ (b : Bool). numbered 4 (unless b 0)) (sym (c .if2 .taken)))
+
+returns-3 : tie.Need-returns-3
+unfolding handed formRule
+returns-3 c =
+    let at = c .before .before in
+    let counts = at .before .before .has-counts in
+    rw (← counts .ensures, not-false (counts .result) (at .before .if1 .left), ← at .blank-rows .ensures, ← c .before .blank-columns .ensures)
+    (ap (λ (b : Bool). numbered 4 (unless b 0)) (sym (c .if2 .left)))
+
+pub form-rule-spec : {M : Type 1} → statement M
+form-rule-spec =
+    tie.close
+    (tie.spec (λ c κs. search needs) returns (λ c κs. room c .0) (λ c κs. room (c .before) .1) returns-2 returns-3)
