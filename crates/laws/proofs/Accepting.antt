@@ -15,7 +15,7 @@ use Rattle.circuit.specs.Sample.{holds}
 use Rattle.circuit.specs.declared.Part.{Part}
 use Rattle.circuit.specs.declared.Part.the-variants.{Blank, Leaf, Adaptor}
 use Rattle.circuit.specs.declared.Record.{Record}
-use Rattle.laws.specs.Accepted.{Sized, Lower, Above, adaptors, adaptorLimit, Accepted}
+use Rattle.laws.specs.Accepted.{Sized, Lower, Above, adaptors, Accepted}
 use Rattle.laws.proofs.Counting as Counting
 use Rattle.laws.proofs.Judging.{Passed, done-passed}
 use Rattle.laws.proofs.Trees as Trees
@@ -140,7 +140,3 @@ module _ (r : Record) (s : Sized r) (h : Passed r) where
 
 pub accepting : (r : Record) → Sized r → setUpReport r ≡ done → Accepted r
 accepting r s e = passed-accepted r s (done-passed r e)
-
--- no accepted circuit has more adaptors
-pub few-adaptors : {r : Record} → Accepted r → adaptorsOf r ≤ adaptorLimit
-few-adaptors a = let odd = a .odd in let short = a .short in omega arith
