@@ -9,12 +9,10 @@ use mathlib.Core.List.{List}
 use lib.IntN.{ℤ, pos, _+ℤ_}
 use lib.Ieee.Bits.{is-true}
 use borrow.Author.Tests.{eq-eqb, ne-eqb, not-true, not-false}
-use Rattle.whole.specs.Order.{Abs}
 use Rattle.circuit.specs.Counting.{within, some, table}
 use Rattle.circuit.specs.Record.{partAt, isLeaf, isInput, top, rowLimit}
 use Rattle.circuit.specs.Curve.{waveLimit, reflected}
 use Rattle.circuit.specs.Sample.{rounded, sends, stores, partStores, partSends, sent, arriving, kept, output, inLimit, sampled, refused, finished, storedAt}
-use Rattle.circuit.specs.declared.Doubled.{Doubled}
 use Rattle.circuit.specs.declared.Element.{Element}
 use Rattle.circuit.specs.declared.Element.the-variants.{Resistor, Capacitor, Inductor, Input, Steady}
 use Rattle.circuit.specs.declared.Part.{Part}
@@ -24,8 +22,9 @@ use Rattle.laws.specs.Accepted.{Accepted}
 use Rattle.laws.proofs.Counting as Counting
 use Rattle.laws.proofs.Playing.{stored-sound}
 use Rattle.engine.specs.Plan.{floor, roleOf, slotOf, reactives, Slotted, turnOf, Plan}
-use Rattle.engine.specs.Sample.{overAt, leafOver, Turn, turnedBy, Restored, Restores, Works}
-use Rattle.engine.specs.declared.sample.Outcome.the-variants.{Over, Finished}
+use Rattle.engine.specs.Sample.{overAt, leafOver, Turn, turnedBy, Restored, Restores, Port, Settles, Settled, Loaded, Works}
+use Rattle.engine.specs.declared.sample.Outcome.{Outcome}
+use Rattle.engine.specs.declared.sample.Outcome.the-variants.{Loud, Over, Finished}
 use Rattle.engine.proofs.Limits.{within-abs}
 use Rattle.engine.proofs.Sampling.{leaf-of, LeafSlot, leaf-inside, leaf-slot, slot-low, slot-leaf, Landed}
 
@@ -55,13 +54,6 @@ turns (Leaf (Inductor v)) = inr refl
 turns (Leaf (Input v)) = inl refl
 turns (Leaf (Steady v m)) = inl refl
 turns (Adaptor a) = inl refl
-
--- the two waves of a port, and what a tap reads there
-pub record Port (above below : List ℤ) (s : ℕ) (out : ℤ) : Type 0 where
-  pub inside : s < rowLimit
-  pub sent : Abs (storedAt above s) waveLimit
-  pub arrived : Abs (storedAt below s) waveLimit
-  pub reads : storedAt above s +ℤ storedAt below s ≡ out
 
 module _ {p : Plan} {r : Record} {ws : List ℤ} {x : ℤ} {above below : List ℤ} (h : Landed p r ws x above below) where
   abbrev acc : Accepted r
@@ -107,31 +99,31 @@ module _ {p : Plan} {r : Record} {ws : List ℤ} {x : ℤ} {above below : List �
 
     -- ---- what the tap reads
 
-    pub tapped : Port above below (p .shape .tap) (output rounded (reflected r) r (storedAt ws) x)
+    tapped : Port above below (p .shape .tap)
+        × (storedAt above (p .shape .tap) +ℤ storedAt below (p .shape .tap) ≡ output rounded (reflected r) r (storedAt ws) x)
     unfolding output
     tapped = elim (acc .tapped) [
-      | inl q ↦ rw (h .fixed .tap, eq-eqb (r .tap) top q, at .last) (record {
-        inside = omega (arith, at .few);
-        sent = rw (h .rises) (within-abs waveLimit _ (h .calm));
-        arrived = h .answer;
-        reads = ap₂ _+ℤ_ (h .rises) (h .returns);
-      })
+      | inl q ↦ rw (h .fixed .tap, eq-eqb (r .tap) top q, at .last) (
+        record { inside = omega (arith, at .few); sent = rw (h .rises) (within-abs waveLimit _ (h .calm)); arriving = h .answer },
+        ap₂ _+ℤ_ (h .rises) (h .returns),
+      )
       | inr t ↦
           let e = is-true _ t in
-          let short = acc .short in
           let inside = leaf-inside (h .fixed) (r .tap) e in
-          let apart : r .tap ≡ top → ⊥ = λ q. omega arith in
-          rw (h .fixed .tap, ne-eqb (r .tap) top apart) (record {
-            inside = omega (arith, slot-low (h .fixed) (leaf-slot (h .fixed) (r .tap) e));
-            sent = rw (h .sends (r .tap) e) (h .quiet (r .tap));
-            arrived = rw (h .arrives (r .tap) e) (within-abs waveLimit _ (calm-leaf (r .tap) e));
-            reads = ap₂ _+ℤ_ (h .sends (r .tap) e) (h .arrives (r .tap) e);
-          })
+          let apart : r .tap ≡ top → ⊥ = λ q. omega (arith, acc .short) in
+          rw (h .fixed .tap, ne-eqb (r .tap) top apart) (
+            record {
+              inside = omega (arith, slot-low (h .fixed) (leaf-slot (h .fixed) (r .tap) e));
+              sent = rw (h .sends (r .tap) e) (h .quiet (r .tap));
+              arriving = rw (h .arrives (r .tap) e) (within-abs waveLimit _ (calm-leaf (r .tap) e));
+            },
+            ap₂ _+ℤ_ (h .sends (r .tap) e) (h .arrives (r .tap) e),
+          )
     ]
 
     -- ---- what is stored
 
-    pub restores : Restores (p .turns) (p .shape .reactive) above below
+    restores : Restores (p .turns) (p .shape .reactive) above below
     restores =
         let fewer = at .fewer in
         let q = h .fixed .reactive in
@@ -155,7 +147,8 @@ module _ {p : Plan} {r : Record} {ws : List ℤ} {x : ℤ} {above below : List �
       stays : reactives r ≤ slotOf r j → isLeaf (partAt r j) ≡ true → storedAt after (slotOf r j) ≡ sent rounded r (storedAt ws) x j
       stays high e = k .rest (slotOf r j) (rw (h .fixed .reactive) high) ∙ h .sends j e
 
-      sends-next : (y : Element) → partAt r j ≡ Leaf y → isInput (Leaf y) ≡ false → storedAt after (slotOf r j) ≡ partSends rounded (pos 0) (storedAt next j) (Leaf y)
+      sends-next : (y : Element) → partAt r j ≡ Leaf y → isInput (Leaf y) ≡ false
+          → storedAt after (slotOf r j) ≡ partSends rounded (pos 0) (storedAt next j) (Leaf y)
       unfolding sent sends stores roleOf
       sends-next (Resistor v) e f = stays (at .other j l (ap roleOf e) .0) (ap isLeaf e) ∙ rw e
       sends-next (Capacitor v) e f = moves (at .reactive j l (ap roleOf e)) (ap isLeaf e) ∙ rw (next-at, e)
@@ -163,23 +156,25 @@ module _ {p : Plan} {r : Record} {ws : List ℤ} {x : ℤ} {above below : List �
       sends-next (Input v) e f = absurd (true≢false f)
       sends-next (Steady v m) e f = stays (at .other j l (ap roleOf e) .0) (ap isLeaf e) ∙ rw e
 
-    -- ---- the end
+    loaded-next : {after : List ℤ} → Restored (p .turns) below (p .shape .reactive) above after → Loaded r next after
+    unfolding sent
+    loaded-next k = record {
+      size = Counting.length-table (kept rounded (reflected r) r (storedAt ws) x) rowLimit;
+      long = k .long ∙ h .still .long;
+      sound = stored-sound r ws x _ next finishes;
+      leaves = λ j l e f. let y = leaf-of (partAt r j) e in
+          sends-next k j l (y .0) (y .1) (sym (ap isInput (y .1)) ∙ f) ∙ sym (ap (partSends rounded (pos 0) (storedAt next j)) (y .1));
+    }
 
-    pub works : {v : Doubled} {after : List ℤ} → v .0 ≡ storedAt above (p .shape .tap) +ℤ storedAt below (p .shape .tap)
-        → Restored (p .turns) below (p .shape .reactive) above after → Works r ws x (Finished v) after
-    unfolding Works sent
-    works {v} {after} e k = (
-      next,
-      finishes ∙ ap (λ z. finished z next) (sym (e ∙ tapped .reads)),
-      record {
-        size = Counting.length-table (kept rounded (reflected r) r (storedAt ws) x) rowLimit;
-        long = k .long ∙ h .still .long;
-        sound = stored-sound r ws x _ next finishes;
-        leaves = λ j l isleaf f. let y = leaf-of (partAt r j) isleaf in
-            sends-next k j l (y .0) (y .1) (sym (ap isInput (y .1)) ∙ f) ∙ sym (ap (partSends rounded (pos 0) (storedAt next j)) (y .1));
-      },
-    )
+  -- ---- the end
 
-  pub over-works : leafOver n below ≡ true → Works r ws x Over above
-  unfolding Works
-  over-works e = (refuses-leaf e, h .still)
+  pub settles : Settles (p .shape) (p .turns) above below
+  settles = record { few = omega (arith, h .fixed .adaptors, at .few); modest = h .modest; port = λ e. tapped e .0; restores = restores }
+
+  -- what it comes to is the definition's sample
+  pub works : (o : Outcome) (after : List ℤ) → Settled (p .shape) (p .turns) above below o after → Works r ws x o after
+  unfolding Works Settled
+  works Loud after s = absurd s
+  works Over after s = (refuses-leaf (s .0), rw (s .1) (h .still))
+  works (Finished v) after s =
+      (next (s .0), finishes (s .0) ∙ ap (λ z. finished z (next (s .0))) (sym (s .1 ∙ tapped (s .0) .1)), loaded-next (s .0) (s .2))

@@ -3,7 +3,6 @@ pub mod Fall
 pub mod Fill
 pub mod Finishing
 pub mod Giving
-pub mod Holding
 pub mod Laying
 pub mod Limits
 pub mod Lines

@@ -49,12 +49,6 @@ module _ {x y : ℤ} (h : Abs x waveLimit) (k : Abs y waveLimit) where
   pub difference-range : Abs (x -ℤ y) (2 * waveLimit)
   difference-range = omega (zarith, at x ⊟ at y)
 
-  pub difference-fits : SFits w64 (toZ w64 (ofZ w64 x) -ℤ toZ w64 (ofZ w64 y))
-  difference-fits = rw (limit-reads h, limit-reads k) (abs-fits difference-range (omega arith))
-
-  pub difference-reads : toZ w64 (ofZ w64 (toZ w64 (ofZ w64 x) -ℤ toZ w64 (ofZ w64 y))) ≡ x -ℤ y
-  difference-reads = toZ-ofZ difference-fits ∙ ap₂ _-ℤ_ (limit-reads h) (limit-reads k)
-
   -- a sum of two fits 32 bits
   pub sum-short : SFits w32 (x +ℤ y)
   sum-short = omega (zfits, at x ⊞ at y)

@@ -28,7 +28,7 @@ use Rattle.laws.proofs.Drawn.{answer-never-exceeds}
 use Rattle.laws.proofs.Trees as Trees
 use Rattle.engine.specs.Plan.{floor, roleOf, slotOf, topSlot, Plan}
 use Rattle.engine.specs.Sweep.{rises, Risen, Swept, Climbs, Modest, Drops, Reached}
-use Rattle.engine.specs.Sample.{Fixed, Loaded}
+use Rattle.engine.specs.Sample.{Fixed, Loaded, LaidOut}
 use Rattle.engine.proofs.Limits.{within-abs}
 use Rattle.engine.proofs.Turn.{adaptor-slot}
 use Rattle.engine.proofs.Fall.{modest-set}
@@ -50,11 +50,7 @@ module _ {p : Plan} {r : Record} (fixed : Fixed p r) where
 
   -- a leaf's row is in use
   pub leaf-inside : (j : ℕ) → isLeaf (partAt r j) ≡ true → j < r .count
-  leaf-inside j e = by (decLt j (r .count))
-    where
-      by : Dec (j < r .count) → j < r .count
-      by (yes l) = l
-      by (no l) = absurd (true≢false (sym e ∙ ap isLeaf (fixed .accepted .blank j (omega arith))))
+  leaf-inside j e = elim (decLt j (r .count)) [ yes l ↦ l | no l ↦ absurd (true≢false (sym e ∙ ap isLeaf (fixed .accepted .blank j (omega arith)))) ]
 
   -- a row in use is a leaf's where its slot is not above the floor
   low-leaf : (j : ℕ) → j < r .count → slotOf r j ≤ floor → isLeaf (partAt r j) ≡ true
@@ -89,7 +85,10 @@ module _ {p : Plan} {r : Record} (fixed : Fixed p r) where
   there s (inr e) = rw e (fixed .slotted .source)
 
   pub slot-leaf : (s : ℕ) → LeafSlot n s → (j : ℕ) × (j < r .count) × (isLeaf (partAt r j) ≡ true) × (slotOf r j ≡ s)
-  slot-leaf s k = let t = there s k in let low = slot-low k in (fixed .slotted .row s, t .0, low-leaf (fixed .slotted .row s) (t .0) (omega (arith, t .1)), t .1)
+  slot-leaf s k =
+      let t = there s k in
+      let low = slot-low k in
+      (fixed .slotted .row s, t .0, low-leaf (fixed .slotted .row s) (t .0) (omega (arith, t .1)), t .1)
 
 -- ---- what one leaf sends
 
@@ -100,7 +99,7 @@ source-quiet : {z : ℤ} → within sourceLimit z ≡ true → Abs z waveLimit
 source-quiet {z} e = abs-as (within-abs sourceLimit z e) refl (omega arith)
 
 module _ (x s : ℤ) where
-  -- the input the sample, and any other the same with every sample
+  -- an input sends the sample, any other part the same with every sample
   sends-either : (p : Part) → partSends rounded x s p ≡ cond (isInput p) x (partSends rounded (pos 0) s p)
   unfolding sends
   sends-either Blank = refl
@@ -121,74 +120,7 @@ module _ (x s : ℤ) where
   part-quiet (Leaf (Steady v m)) h k l = source-quiet (and-eq-true-iff (positive v) (within sourceLimit m) .0 l .1)
   part-quiet (Adaptor a) h k l = none
 
--- ---- before the sweep up
-
-pub refuses-loud : (r : Record) (ws : List ℤ) (x : ℤ) → within sourceLimit x ≡ false → sampled r ws x ≡ refused 14
-unfolding sampled
-refuses-loud r ws x e = rw e
-
-module _ {p : Plan} {r : Record} (fixed : Fixed p r) {ws ups : List ℤ} (loaded : Loaded r ws ups) (x : ℤ) where
-  abbrev w : ℕ → ℤ
-  w = sent rounded r (storedAt ws) x
-
-  leaf-rises : (j : ℕ) → isLeaf (partAt r j) ≡ true → rises r w j ≡ w j
-  leaf-rises j e =
-      let y = leaf-of (partAt r j) e in
-      Trees.up-leaf r (fixed .accepted .lower) j (Trees.tree-leaf r (fixed .accepted .lower) j (y .0) (y .1)) rounded (ratioAt r) w
-
-  -- with the sample at the floor every leaf has in its slot what it sends
-  all-sent : (j : ℕ) → j < r .count → isLeaf (partAt r j) ≡ true → storedAt (set ups floor x) (slotOf r j) ≡ w j
-  unfolding sent
-  all-sent j l e =
-      let y = leaf-of (partAt r j) e in
-      rw (sends-either x (storedAt ws j) (partAt r j))
-      (elim (stands fixed j l (y .0) (y .1)) [
-        | inl h ↦
-            let other = ap isInput (y .1) ∙ h .1 in
-            let apart : slotOf r j ≡ floor → ⊥ = λ q. omega (arith, h .0) in
-            rw other (getD-set-other ups floor (slotOf r j) x (pos 0) apart ∙ loaded .leaves j l e other)
-        | inr h ↦ rw (h .0, ap isInput (y .1) ∙ h .1) (getD-set-same ups floor x (pos 0) (omega (arith, loaded .long)))
-      ])
-
-  pub begun : Risen r w (suc floor) (set ups floor x)
-  begun = record {
-    long = length-set ups floor x ∙ loaded .long;
-    right = λ j l h. let e = low-leaf fixed j l (omega arith) in all-sent j l e ∙ sym (leaf-rises j e);
-  }
-
-  module _ (source : within sourceLimit x ≡ true) where
-    pub quiet : (j : ℕ) → Abs (w j) waveLimit
-    unfolding sent
-    quiet j = by (decLt j (r .count))
-      where
-        by : Dec (j < r .count) → Abs (partSends rounded x (storedAt ws j) (partAt r j)) waveLimit
-        by (yes l) =
-            let short = fixed .accepted .short in
-            part-quiet x (storedAt ws j) (partAt r j) source (loaded .sound j (omega arith)) (is-true _ (fixed .accepted .sound j l))
-        by (no l) = rw (fixed .accepted .blank j (omega arith)) none
-
-    abbrev pub swept : Swept (p .joints) (p .shape .adaptors)
-    swept = record {
-      circuit = r;
-      wave = w;
-      accepted = fixed .accepted;
-      slotted = fixed .slotted;
-      all = fixed .adaptors;
-      staged = fixed .staged;
-      quiet = quiet;
-    }
-
-    abbrev pub climbs : Climbs (p .joints) (p .shape .adaptors) (set ups floor x)
-    climbs = record { swept = swept; begun = begun }
-
--- ---- between the sweeps
-
--- what the sweep up leaves
-pub record Raised (p : Plan) (r : Record) (ws ups : List ℤ) (x : ℤ) (above : List ℤ) : Type 0 where
-  pub fixed : Fixed p r
-  pub loaded : Loaded r ws ups
-  pub source : within sourceLimit x ≡ true
-  pub up : Risen r (sent rounded r (storedAt ws) x) (suc floor + p .shape .adaptors) above
+-- ---- the sweeps
 
 -- what both leave, where the top's wave is in its limit
 pub record Landed (p : Plan) (r : Record) (ws : List ℤ) (x : ℤ) (above below : List ℤ) : Type 0 where
@@ -204,77 +136,144 @@ pub record Landed (p : Plan) (r : Record) (ws : List ℤ) (x : ℤ) (above below
   pub answer : Abs (storedAt below (topSlot r)) waveLimit
   pub modest : Modest below
 
-module _ {p : Plan} {r : Record} {ws ups : List ℤ} {x : ℤ} {above : List ℤ} (h : Raised p r ws ups x above) where
-  -- the top's slot, and the wave there
-  abbrev top : ℕ
-  top = floor + p .shape .adaptors
+pub refuses-loud : (r : Record) (ws : List ℤ) (x : ℤ) → within sourceLimit x ≡ false → sampled r ws x ≡ refused 14
+unfolding sampled
+refuses-loud r ws x e = rw e
 
-  abbrev wave : ℤ
-  wave = storedAt above top
+module _ {p : Plan} {ups ds : List ℤ} (k : LaidOut p ups ds) (x : ℤ) where
+  abbrev r : Record
+  r = k .circuit
 
-  top-slot : top ≡ topSlot r
-  top-slot = ap (_+_ floor) (h .fixed .adaptors)
+  -- what row j sends with the sample
+  abbrev pub sendsAt : ℕ → ℤ
+  sendsAt = sent rounded r (storedAt (k .stored)) x
 
-  leaf-risen : (j : ℕ) → isLeaf (partAt r j) ≡ true → storedAt above (slotOf r j) ≡ sent rounded r (storedAt ws) x j
-  leaf-risen j e =
-      let low = slot-low (h .fixed) (leaf-slot (h .fixed) j e) in
-      h .up .right j (leaf-inside (h .fixed) j e) (omega arith) ∙ leaf-rises (h .fixed) (h .loaded) x j e
+  leaf-rises : (j : ℕ) → isLeaf (partAt r j) ≡ true → rises r sendsAt j ≡ sendsAt j
+  leaf-rises j e =
+      let y = leaf-of (partAt r j) e in
+      Trees.up-leaf r (k .fixed .accepted .lower) j (Trees.tree-leaf r (k .fixed .accepted .lower) j (y .0) (y .1)) rounded (ratioAt r) sendsAt
 
-  -- what every leaf but the input sends next is as it was
-  pub still : Loaded r ws above
+  -- with the sample at the floor every leaf has in its slot what it sends
+  all-sent : (j : ℕ) → j < r .count → isLeaf (partAt r j) ≡ true → storedAt (set ups floor x) (slotOf r j) ≡ sendsAt j
   unfolding sent
-  still = record {
-    size = h .loaded .size;
-    long = h .up .long;
-    sound = h .loaded .sound;
-    leaves = λ j l e f. leaf-risen j e ∙ rw (sends-either x (storedAt ws j) (partAt r j), f);
+  all-sent j l e =
+      let y = leaf-of (partAt r j) e in
+      rw (sends-either x (storedAt (k .stored) j) (partAt r j))
+      (elim (stands (k .fixed) j l (y .0) (y .1)) [
+        | inl h ↦
+            let other = ap isInput (y .1) ∙ h .1 in
+            let apart : slotOf r j ≡ floor → ⊥ = λ q. omega (arith, h .0) in
+            rw other (getD-set-other ups floor (slotOf r j) x (pos 0) apart ∙ k .loaded .leaves j l e other)
+        | inr h ↦ rw (h .0, ap isInput (y .1) ∙ h .1) (getD-set-same ups floor x (pos 0) (omega (arith, k .loaded .long)))
+      ])
+
+  pub begun : Risen r sendsAt (suc floor) (set ups floor x)
+  begun = record {
+    long = length-set ups floor x ∙ k .loaded .long;
+    right = λ j l h. let e = low-leaf (k .fixed) j l (omega arith) in all-sent j l e ∙ sym (leaf-rises j e);
   }
 
-  top-wave : wave ≡ risen rounded r (storedAt ws) x
-  unfolding risen treeOf lastRow
-  top-wave =
-      let some = h .fixed .accepted .some in
-      let last = h .fixed .slotted .last in
-      ap (storedAt above) (top-slot ∙ sym last) ∙ h .up .right (r .count - 1) (omega arith) (omega (arith, top-slot))
+  module _ (source : within sourceLimit x ≡ true) where
+    pub quiet : (j : ℕ) → Abs (sendsAt j) waveLimit
+    unfolding sent
+    quiet j = elim (decLt j (r .count)) [
+      | yes l ↦
+          let sound = k .loaded .sound j (omega (arith, k .fixed .accepted .short)) in
+          part-quiet x (storedAt (k .stored) j) (partAt r j) source sound (is-true _ (k .fixed .accepted .sound j l))
+      | no l ↦ rw (k .fixed .accepted .blank j (omega arith)) none
+    ]
 
-  pub refuses-top : within waveLimit wave ≡ false → sampled r ws x ≡ refused 15
-  unfolding sampled inLimit
-  refuses-top e = rw (h .source, ← top-wave, e)
-
-  module _ (calm : within waveLimit wave ≡ true) {answer : ℤ} (answers : answer ≡ reflected r wave) {ds : List ℤ} (room : Modest ds) where
-    pub answer-range : Abs answer waveLimit
-    answer-range =
-        let limit = within-abs waveLimit wave calm .bound in
-        record { bound = rw answers (omega (arith, answer-never-exceeds (h .fixed .accepted .drawn) wave)) }
-
-    pub answer-there : storedAt (set ds top answer) top ≡ answer
-    answer-there = getD-set-same ds top answer (pos 0) (omega (arith, room .long, h .fixed .adaptors, h .fixed .slotted .few))
-
-    abbrev pub drops : Drops (p .joints) (p .shape .adaptors) above (set ds top answer)
-    drops = record {
-      swept = swept (h .fixed) (h .loaded) x (h .source);
-      risen = h .up;
-      modest = modest-set room top (abs-as answer-range refl (omega arith));
-      answer = abs-as answer-range (sym answer-there) (omega arith);
+    abbrev pub swept : Swept (p .joints) (p .shape .adaptors)
+    swept = record {
+      circuit = r;
+      wave = sendsAt;
+      accepted = k .fixed .accepted;
+      slotted = k .fixed .slotted;
+      all = k .fixed .adaptors;
+      staged = k .fixed .staged;
+      quiet = quiet;
     }
 
-    answered : storedAt (set ds top answer) (topSlot r) ≡ answer
-    answered = ap (storedAt (set ds top answer)) (sym top-slot) ∙ answer-there
+    abbrev pub climbs : Climbs (p .joints) (p .shape .adaptors) (set ups floor x)
+    climbs = record { swept = swept; begun = begun }
 
-    pub landed : {below : List ℤ} → Reached r (sent rounded r (storedAt ws) x) (set ds top answer) below → Landed p r ws x above below
-    unfolding arriving
-    landed k =
-        let diode = answered ∙ answers ∙ ap (reflected r) top-wave in
-        record {
-          fixed = h .fixed;
-          source = h .source;
-          calm = rw (← top-wave) calm;
-          quiet = quiet (h .fixed) (h .loaded) x (h .source);
-          still = still;
-          sends = leaf-risen;
-          rises = ap (storedAt above) (sym top-slot) ∙ top-wave;
-          arrives = λ j e. k .leaves j e ∙ ap (λ z. reach rounded (ratioAt r) (sent rounded r (storedAt ws) x) (treeOf r) z j) diode;
-          returns = k .above ∙ diode;
-          answer = abs-as answer-range (sym (k .above ∙ answered)) (omega arith);
-          modest = k .modest;
-        }
+  -- ---- between the sweeps
+
+  -- what the sweep up leaves
+  pub record Raised (above : List ℤ) : Type 0 where
+    pub source : within sourceLimit x ≡ true
+    pub up : Risen r sendsAt (suc floor + p .shape .adaptors) above
+
+  module _ {above : List ℤ} (h : Raised above) where
+    -- the top's slot, and the wave there
+    abbrev top : ℕ
+    top = floor + p .shape .adaptors
+
+    abbrev wave : ℤ
+    wave = storedAt above top
+
+    top-slot : top ≡ topSlot r
+    top-slot = ap (_+_ floor) (k .fixed .adaptors)
+
+    leaf-risen : (j : ℕ) → isLeaf (partAt r j) ≡ true → storedAt above (slotOf r j) ≡ sendsAt j
+    leaf-risen j e =
+        let low = slot-low (k .fixed) (leaf-slot (k .fixed) j e) in
+        h .up .right j (leaf-inside (k .fixed) j e) (omega arith) ∙ leaf-rises j e
+
+    -- what every leaf but the input sends next is as it was
+    pub still : Loaded r (k .stored) above
+    unfolding sent
+    still = record {
+      size = k .loaded .size;
+      long = h .up .long;
+      sound = k .loaded .sound;
+      leaves = λ j l e f. leaf-risen j e ∙ rw (sends-either x (storedAt (k .stored) j) (partAt r j), f);
+    }
+
+    top-wave : wave ≡ risen rounded r (storedAt (k .stored)) x
+    unfolding risen treeOf lastRow
+    top-wave =
+        let last = k .fixed .slotted .last in
+        ap (storedAt above) (top-slot ∙ sym last) ∙ h .up .right (r .count - 1) (omega (arith, k .fixed .accepted .some)) (omega (arith, top-slot))
+
+    pub refuses-top : within waveLimit wave ≡ false → sampled r (k .stored) x ≡ refused 15
+    unfolding sampled inLimit
+    refuses-top e = rw (h .source, ← top-wave, e)
+
+    module _ (calm : within waveLimit wave ≡ true) {answer : ℤ} (answers : answer ≡ reflected r wave) where
+      pub answer-range : Abs answer waveLimit
+      answer-range =
+          let limit = within-abs waveLimit wave calm .bound in
+          record { bound = rw answers (omega (arith, answer-never-exceeds (k .fixed .accepted .drawn) wave)) }
+
+      pub answer-there : storedAt (set ds top answer) top ≡ answer
+      answer-there = getD-set-same ds top answer (pos 0) (omega (arith, k .room .long, k .fixed .adaptors, k .fixed .slotted .few))
+
+      abbrev pub drops : Drops (p .joints) (p .shape .adaptors) above (set ds top answer)
+      drops = record {
+        swept = swept (h .source);
+        risen = h .up;
+        modest = modest-set (k .room) top (abs-as answer-range refl (omega arith));
+        answer = abs-as answer-range (sym answer-there) (omega arith);
+      }
+
+      answered : storedAt (set ds top answer) (topSlot r) ≡ answer
+      answered = ap (storedAt (set ds top answer)) (sym top-slot) ∙ answer-there
+
+      pub landed : {below : List ℤ} → Reached r sendsAt (set ds top answer) below → Landed p r (k .stored) x above below
+      unfolding arriving
+      landed reached =
+          let diode = answered ∙ answers ∙ ap (reflected r) top-wave in
+          record {
+            fixed = k .fixed;
+            source = h .source;
+            calm = rw (← top-wave) calm;
+            quiet = quiet (h .source);
+            still = still;
+            sends = leaf-risen;
+            rises = ap (storedAt above) (sym top-slot) ∙ top-wave;
+            arrives = λ j e. reached .leaves j e ∙ ap (λ z. reach rounded (ratioAt r) sendsAt (treeOf r) z j) diode;
+            returns = reached .above ∙ diode;
+            answer = abs-as answer-range (sym (reached .above ∙ answered)) (omega arith);
+            modest = reached .modest;
+          }

@@ -40,6 +40,10 @@ roleOf (Leaf (Input r)) = 2
 roleOf (Leaf (Steady r v)) = 1
 roleOf (Adaptor a) = 3
 
+-- so many of the rows have these roles
+abbrev pub Roled : List Row → ℕ → List ℕ → Type 0
+Roled rows count roles = (j : ℕ) → j < count → getD roles j 0 ≡ roleOf (rowIn rows j .part)
+
 -- how many of the first n rows have a role
 unfoldable pub rank : List Row → ℕ → ℕ → ℕ
 rank rows role n = total (λ j. one (eqb (roleOf (rowIn rows j .part)) role)) n

@@ -4,7 +4,7 @@ use mathlib.Core.Path.{_≡_}
 use mathlib.Core.Logic.{_⊎_}
 use mathlib.Core.Bool.{Bool, true, false, not, _||_}
 use mathlib.Core.List.{List}
-use lib.IntN.{ℤ, pos, negsuc, negℤ}
+use lib.IntN.{ℤ, pos, negsuc, _+ℤ_, negℤ}
 use lib.ListN.{length}
 use Rattle.whole.specs.Order.{Abs}
 use Rattle.circuit.specs.Counting.{within, some}
@@ -17,6 +17,7 @@ use Rattle.circuit.specs.Run.{soundWave}
 use Rattle.circuit.specs.declared.Prepared.{Prepared}
 use Rattle.circuit.specs.declared.Record.{Record}
 use Rattle.laws.specs.Accepted.{Sized, Accepted}
+use Rattle.engine.specs.declared.plan.Shape.{Shape}
 use Rattle.engine.specs.declared.sample.Outcome.{Outcome}
 use Rattle.engine.specs.declared.sample.Outcome.the-variants.{Loud, Over, Finished}
 use Rattle.engine.specs.Curve.{Drawing, Mirrors}
@@ -57,6 +58,29 @@ pub record Restores (turns : List ℤ) (q : ℕ) (ups ds : List ℤ) : Type 0 wh
   pub long : length ups ≡ rowLimit
   pub turn : (s : ℕ) → s < q → Turn (storedAt turns s)
   pub wave : (s : ℕ) → s < q → Abs (storedAt ds s) waveLimit
+
+-- ---- the end of a sample
+
+-- the two waves of the slot that the tap reads
+pub record Port (ups ds : List ℤ) (s : ℕ) : Type 0 where
+  pub inside : s < rowLimit
+  pub sent : Abs (storedAt ups s) waveLimit
+  pub arriving : Abs (storedAt ds s) waveLimit
+
+pub record Settles (shape : Shape) (turns ups ds : List ℤ) : Type 0 where
+  pub few : shape .adaptors ≤ floor
+  pub modest : Modest ds
+  -- where no leaf is over its limit
+  pub port : leafOver (shape .adaptors) ds ≡ false → Port ups ds (shape .tap)
+  pub restores : leafOver (shape .adaptors) ds ≡ false → Restores turns (shape .reactive) ups ds
+
+-- the waves are as they were, or the tap's two are put out and the reactive leaves' kept
+unfoldable pub Settled : Shape → List ℤ → List ℤ → List ℤ → Outcome → List ℤ → Type 0
+Settled shape turns ups ds Loud after = ⊥
+Settled shape turns ups ds Over after = (leafOver (shape .adaptors) ds ≡ true) × (after ≡ ups)
+Settled shape turns ups ds (Finished v) after =
+    (leafOver (shape .adaptors) ds ≡ false) × (v .0 ≡ storedAt ups (shape .tap) +ℤ storedAt ds (shape .tap))
+    × Restored turns ds (shape .reactive) ups after
 
 -- ---- what is laid out for a run, and what changes from sample to sample
 

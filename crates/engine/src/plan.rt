@@ -1,9 +1,6 @@
 // What a run lays out of a record before its first sample. Waves stand in slots: the reactive leaves from slot 0 on, then the other leaves, the
 // input at FLOOR, and above it the adaptors in the order of their rows, which is that of the sweep. What a sweep reads of adaptor k stands at k,
 // and its wave at FLOOR + 1 + k. The last adaptor is the top; where there is none the input is.
-use crate::curve::LINES;
-use crate::curve::Line;
-use crate::curve::lines_of;
 use crate::curve::mirror;
 use circuit::Element;
 use circuit::Join;
@@ -18,14 +15,17 @@ ghost use mathlib.Core.Bool.{cond};
 ghost use mathlib.Core.List.{List};
 ghost use Prim.Native.Nat.{ℕ, _-_, _≤_, _<_};
 ghost use lib.Dec.{eqb};
+ghost use lib.IntN.{ℤ};
 ghost use lib.ListN.{getD};
 ghost use Rattle.circuit.specs.Record.{rowLimit, top, partAt, adaptorsOf};
 ghost use Rattle.circuit.specs.Sample.{storedAt};
 ghost use Rattle.circuit.specs.declared.Part.the-variants.{Leaf};
 ghost use Rattle.circuit.specs.declared.Prepared.{Prepared};
+ghost use Rattle.circuit.specs.declared.Row.{Row};
 ghost use Rattle.circuit.specs.declared.Record.{Record};
-ghost use Rattle.engine.specs.Curve.{Mirrors};
-ghost use Rattle.engine.specs.Plan.{roleOf, rank, slotIn, slotOf, joinOf, jointsOf, Staged, turnOf, tapRow, planOf, Layable, Seated, Roomy};
+ghost use Rattle.engine.specs.Curve.{Drawing, Mirrors};
+ghost use Rattle.engine.specs.Plan.{roleOf, Roled, rank, slotIn, slotOf};
+ghost use Rattle.engine.specs.Plan.{joinOf, jointsOf, Staged, turnOf, tapRow, planOf, Layable, Seated, Roomy};
 ghost use Rattle.engine.specs.Sample.{Ready, Fixed};
 
 // Room for the adaptors of a circuit, and for its leaves but the input.
@@ -96,16 +96,28 @@ fn role_of(p: Part) -> u8
     }
 }
 
-// How many reactive leaves there are.
-fn reactive_leaves(rows: [Row; ROWS], count: usize) -> usize
+// The rows' roles.
+fn roles_of(rows: [Row; ROWS], count: usize) -> [u8; ROWS]
     requires { ⌜ count ≤ rowLimit ⌝ }
-    ensures { λ q. ⌜ q ≡ rank rows 0 count ⌝ }
+    ensures { λ roles. ⌜ Roled rows count roles ⌝ }
 {
-    let mut q = 0;
+    let mut roles = [0u8; ROWS];
     for i in 0..count {
         let row = rows[i];
         let part = row.part;
-        if role_of(part) == 0 {
+        roles[i] = role_of(part);
+    }
+    roles
+}
+
+// How many reactive leaves there are.
+fn reactive_leaves(roles: &[u8; ROWS], count: usize) -> usize
+    requires { ⌜ count ≤ rowLimit ⌝ }
+    ensures { λ q. ⌜ ((rows : List Row) → Roled rows count (now (roles .entry)) → q ≡ rank rows 0 count) ⌝ }
+{
+    let mut q = 0;
+    for i in 0..count {
+        if roles[i] == 0 {
             q += 1;
         }
     }
@@ -113,9 +125,10 @@ fn reactive_leaves(rows: [Row; ROWS], count: usize) -> usize
 }
 
 // The rows' slots; `q` is the number of reactive leaves. `next` holds the next slot of each role.
-fn slots_of(rows: [Row; ROWS], count: usize, q: usize) -> [u8; ROWS]
-    requires { ⌜ (count ≤ rowLimit) × (q ≡ rank rows 0 count) ⌝ }
-    ensures { λ s. ⌜ ((j : ℕ) → j < count → getD s j 0 ≡ slotIn rows count j) ⌝ }
+fn slots_of(roles: &[u8; ROWS], count: usize, q: usize) -> [u8; ROWS]
+    requires { ⌜ (count ≤ rowLimit) × ((rows : List Row) × Roled rows count (now roles) × (q ≡ rank rows 0 count)) ⌝ }
+    ensures { λ s. ⌜ ((rows : List Row) → Roled rows count (now (roles .entry)) → q ≡ rank rows 0 count
+        → (j : ℕ) → j < count → getD s j 0 ≡ slotIn rows count j) ⌝ }
 {
     let mut slots = [0u8; ROWS];
     let mut next = [FLOOR as u8 + 1; ROLES];
@@ -123,9 +136,7 @@ fn slots_of(rows: [Row; ROWS], count: usize, q: usize) -> [u8; ROWS]
     next[1] = q as u8;
     next[2] = FLOOR as u8;
     for i in 0..count {
-        let row = rows[i];
-        let part = row.part;
-        let role = wide(role_of(part));
+        let role = wide(roles[i]);
         let s = next[role];
         slots[i] = s;
         next[role] = s + 1;
@@ -232,7 +243,7 @@ fn shape_of(r: Record, q: usize, slots: &[u8; ROWS]) -> Shape
     }
 }
 
-// Lays out all that the samples of a run read, and the rows' slots; `prepared` are the record's rows after set-up.
+// Lays out all that the samples of a run read but the curve's lines, and the rows' slots; `prepared` are the record's rows after set-up.
 pub(crate) fn lay_out(
     r: Record,
     prepared: [Prepared; ROWS],
@@ -242,18 +253,17 @@ pub(crate) fn lay_out(
     seconds: &mut [u8; JOINTS],
     ratios: &mut [i64; JOINTS],
     turns: &mut [i64; ROWS],
-    lines: &mut [Line; LINES],
 ) -> Shape
     requires { ⌜ Ready r prepared × Roomy (jointsOf (now joins) (now firsts) (now seconds) (now ratios)) ⌝ }
-    ensures fixed { λ shape. ⌜ Fixed (planOf shape (jointsOf (now (joins .exit)) (now (firsts .exit)) (now (seconds .exit)) (now (ratios .exit)))
-        (now (turns .exit)) (now (lines .exit))) r ⌝ }
+    ensures fixed { λ shape. ⌜ ((lines : List (List ℤ)) → Drawing r lines → Fixed
+        (planOf shape (jointsOf (now (joins .exit)) (now (firsts .exit)) (now (seconds .exit)) (now (ratios .exit))) (now (turns .exit)) lines) r) ⌝ }
     ensures slots { λ shape. ⌜ Layable r prepared (now (slots .exit)) ⌝ }
 {
     let rows = r.rows;
-    let columns = r.columns;
     let count = wide(r.count);
-    let q = reactive_leaves(rows, count);
-    let given = slots_of(rows, count, q);
+    let roles = roles_of(rows, count);
+    let q = reactive_leaves(&roles, count);
+    let given = slots_of(&roles, count, q);
     lay_joints(
         rows,
         prepared,
@@ -265,7 +275,6 @@ pub(crate) fn lay_out(
         ratios,
     );
     *turns = turns_of(rows, count, &given);
-    *lines = lines_of(columns, wide(r.width));
     *slots = given;
     shape_of(r, q, &given)
 }

@@ -1,6 +1,7 @@
 // The samples of a run, in order: the plan is laid out once, and each sample starts from the waves that the one before it stored.
 use crate::curve::LINES;
 use crate::curve::Line;
+use crate::curve::lines_of;
 use crate::leaf::part_sends;
 use crate::leaf::part_taken;
 use crate::plan::JOINTS;
@@ -160,7 +161,6 @@ pub(crate) fn play(
     let mut seconds = [0u8; JOINTS];
     let mut ratios = [0i64; JOINTS];
     let mut turns = [0i64; ROWS];
-    let mut lines = [[0i64; 4]; LINES];
     let shape = lay_out(
         r,
         prepared,
@@ -170,8 +170,9 @@ pub(crate) fn play(
         &mut seconds,
         &mut ratios,
         &mut turns,
-        &mut lines,
     );
+    let columns = r.columns;
+    let lines = lines_of(columns, wide(r.width));
     let mut up = load(rows, state, count, &slots);
     let stop = samples(
         shape,

@@ -3,6 +3,7 @@ use crate::bytes::put;
 use crate::bytes::sample_at;
 use crate::curve::LINES;
 use crate::curve::Line;
+use crate::curve::lines_of;
 use crate::plan::JOINTS;
 use crate::plan::Shape;
 use crate::plan::lay_out;
@@ -119,7 +120,6 @@ pub(crate) fn play_raw(
     let mut seconds = [0u8; JOINTS];
     let mut ratios = [0i64; JOINTS];
     let mut turns = [0i64; ROWS];
-    let mut lines = [[0i64; 4]; LINES];
     let shape = lay_out(
         r,
         prepared,
@@ -129,8 +129,9 @@ pub(crate) fn play_raw(
         &mut seconds,
         &mut ratios,
         &mut turns,
-        &mut lines,
     );
+    let columns = r.columns;
+    let lines = lines_of(columns, wide(r.width));
     let mut up = load(rows, state, count, &slots);
     let stop = raw_samples(
         shape,

@@ -24,10 +24,10 @@ ghost use Rattle.laws.specs.Accepted.{adaptorLimit};
 ghost use Rattle.engine.specs.Wave.{downLimit};
 ghost use Rattle.engine.specs.Plan.{floor, jointsOf, planOf};
 ghost use Rattle.engine.specs.Sweep.{Modest};
-ghost use Rattle.engine.specs.Sample.{overAt, leafOver, Calm, Turn, turnedBy, Restored, Restores, LaidOut, Samples};
+ghost use Rattle.engine.specs.Sample.{overAt, leafOver, Calm, Turn, turnedBy, Restored, Restores, Settles, Settled, LaidOut, Samples};
 
-// What is gathered so far, and one wave with the limit added. Of a wave within its limit that is from 0 to 2^27: a larger wave, and a negative sum,
-// has a bit from 2^27 on.
+// What is gathered so far, and one wave more, with its limit of 2^26 added. Of a wave over the limit that sum is negative or past 2^27, and leaves a
+// bit from 2^27 on.
 fn gathered(all: i64, wave: i64) -> i64
     requires { ⌜ Abs wave (downLimit adaptorLimit) ⌝ }
     ensures { λ r. ⌜ (Calm r → Calm all × Abs wave waveLimit) ⌝ }
@@ -35,13 +35,8 @@ fn gathered(all: i64, wave: i64) -> i64
     all | (wave + WAVE_LIMIT as i64)
 }
 
-fn is_wild(all: i64) -> bool
-    ensures { λ r. ⌜ (r ≡ false → Calm all) ⌝ }
-{
-    (all < 0) | (2 * (WAVE_LIMIT as i64) <= all)
-}
-
-// Whether what is gathered, or some wave that arrives at the first `n` slots, may be over its limit: where this says no, none is.
+// Whether what is gathered first, or some wave that arrives at the first `n` slots, may be over its limit: where this says no, none is. A wave just at
+// its limit is enough for a yes.
 fn may_be_over(first: i64, n: usize, down: &[i64; ROWS]) -> bool
     requires { ⌜ (n ≤ suc floor) × Modest (now down) ⌝ }
     ensures { λ r. ⌜ (r ≡ false → Calm first × ((s : ℕ) → s < n → Abs (storedAt (now (down .entry)) s) waveLimit)) ⌝ }
@@ -50,7 +45,7 @@ fn may_be_over(first: i64, n: usize, down: &[i64; ROWS]) -> bool
     for s in 0..n {
         all = gathered(all, down[s]);
     }
-    is_wild(all)
+    (all < 0) | (2 * (WAVE_LIMIT as i64) <= all)
 }
 
 // Rule 15, of the waves that arrive at the first `n` slots.
@@ -66,8 +61,8 @@ fn any_over(n: usize, down: &[i64; ROWS]) -> bool
     false
 }
 
-// Rule 15, of the waves that arrive at the leaves: `n` of them are no input. All are looked at together first, where there are many also at the
-// slots that no leaf has: a number of turns that is known beforehand is quicker than counting.
+// Rule 15, of the waves that arrive at the leaves: `n` of them are no input. All are looked at together first; where there are many, so are the slots
+// that no leaf has, since a loop of known length is quicker.
 fn leaf_over(n: usize, down: &[i64; ROWS]) -> bool
     requires { ⌜ (n ≤ floor) × Modest (now down) ⌝ }
     ensures { λ b. ⌜ b ≡ leafOver n (now (down .entry)) ⌝ }
@@ -117,6 +112,20 @@ pub(crate) enum Outcome {
     Finished(Doubled),
 }
 
+// The end of a sample. Rule 15 at the leaves comes before anything is stored, and the tap reads what its row has sent, not what it sends next.
+fn settle(shape: Shape, turns: &[i64; ROWS], up: &mut [i64; ROWS], down: &[i64; ROWS]) -> Outcome
+    requires { ⌜ Settles shape (now turns) (now up) (now down) ⌝ }
+    ensures { λ o. ⌜ Settled shape (now (turns .entry)) (now (up .entry)) (now (down .entry)) o (now (up .exit)) ⌝ }
+{
+    if leaf_over(shape.adaptors, down) {
+        return Outcome::Over;
+    }
+    let tap = shape.tap;
+    let output = tapped(Wave(up[tap]), Wave(down[tap]));
+    store(turns, shape.reactive, down, up);
+    Outcome::Finished(output)
+}
+
 // Between samples `up` holds what every leaf but the input sends next; a refused sample keeps that. `down` is room for the sweep down.
 pub(crate) fn sample(
     shape: Shape,
@@ -137,11 +146,11 @@ pub(crate) fn sample(
         return Outcome::Loud;
     }
     let n = shape.adaptors;
-    let tap = shape.tap;
     let wave = x as i64;
     up[FLOOR] = wave;
     sweep_up(joins, firsts, seconds, ratios, n, up);
-    let risen = Wave(up[FLOOR + n]);
+    let high = up[FLOOR + n];
+    let risen = Wave(high);
     if !risen.in_limit() {
         return Outcome::Over;
     }
@@ -149,10 +158,5 @@ pub(crate) fn sample(
     let top = answer.0;
     down[FLOOR + n] = top;
     sweep_down(joins, firsts, seconds, ratios, n, up, down);
-    if leaf_over(n, down) {
-        return Outcome::Over;
-    }
-    let output = tapped(Wave(up[tap]), Wave(down[tap]));
-    store(turns, shape.reactive, down, up);
-    Outcome::Finished(output)
+    settle(shape, turns, up, down)
 }

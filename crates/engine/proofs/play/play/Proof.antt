@@ -1,8 +1,13 @@
 -- `play` meets its contract: the stored waves are loaded, the samples are played over a plan of the record, and what they leave is taken out.
+use Prim.Native.Nat.{_≤_}
+use native.Mathlib.Omega.{arith}
 use mathlib.Core.Path.{_≡_, refl, sym, ap}
 use borrow.Author.Needs.{needs}
+use Rattle.circuit.specs.Record.{columnLimit}
 use Rattle.circuit.specs.Run.{Played, Call, play, worked, ran, call}
 use Rattle.laws.proofs.Running.{allowed-done, ran-worked}
+use Rattle.laws.specs.Accepted.{Accepted}
+use Rattle.engine.specs.Curve.{Drawing}
 use Rattle.engine.specs.Plan.{Seated}
 use Rattle.engine.specs.Sample.{Loaded}
 use Rattle.engine.proofs.Loading.{cleared, fresh-modest}
@@ -24,7 +29,7 @@ at-load c = lent (c .before .before .before .before)
 
 module _ (c : tie.After-lay-out) where
   abbrev wide : tie.After-wide
-  wide = counted (c .before .before .before .before)
+  wide = counted (c .before .before .before)
 
   abbrev start : tie.Start
   start = wide .before .before
@@ -32,18 +37,41 @@ module _ (c : tie.After-lay-out) where
   seated : Seated (start .args .r .rows) (wide .wide .result) (c .lay-out .last .1 .1 .0) (start .args .r)
   seated = record { prepared = start .args .prepared; all = refl; many = sym (wide .wide .ensures); layable = c .lay-out .ensures .1 }
 
+-- the curve's lines
+module _ (c : tie.After-wide2) where
+  abbrev laid-out : tie.After-lay-out
+  laid-out = c .before .before
+
+  abbrev accepted : Accepted (start laid-out .args .r)
+  accepted = laid-out .lay-out .ensures .1 .accepted
+
+  narrow : c .wide2 .result ≤ columnLimit
+  narrow = omega (arith, c .wide2 .ensures, accepted .wide)
+
 module _ (c : tie.After-load) where
+  abbrev lines : tie.After-lines-of
+  lines = c .before .before
+
   abbrev laid : tie.After-lay-out
-  laid = c .before .before
+  laid = laid-out (lines .before)
+
+  drawing : Drawing (start laid .args .r) (lines .lines-of .result)
+  drawing =
+      let w = lines .before in
+      lines .lines-of .ensures (start laid .args .r) refl (sym (w .wide2 .ensures)) (accepted w .drawn) (narrow w)
 
   loaded : Loaded (start laid .args .r) (start laid .args .state .waves) (c .load .result)
   loaded = c .load .ensures (start laid .args .r) (seated laid) (start laid .pre .0 .waves)
 
+lines-of-requires : tie.Need-lines-of-requires
+lines-of-requires c κs = (start (laid-out c) .args .r, refl, sym (c .wide2 .ensures), accepted c .drawn, narrow c)
+
 samples-requires : tie.Need-samples-requires
 samples-requires c κs =
     let at = at-load c in
+    let fixed = laid at .lay-out .ensures .0 _ (drawing at) in
     let a = start (laid at) .args in (
-      record { circuit = a .r; stored = a .state .waves; fixed = laid at .lay-out .ensures .0; loaded = loaded at; room = fresh-modest },
+      record { circuit = a .r; stored = a .state .waves; fixed = fixed; loaded = loaded at; room = fresh-modest },
       start (laid at) .pre .1,
     )
 
@@ -66,7 +94,7 @@ unload-requires : tie.Need-unload-requires
 unload-requires c κs =
     let done = c .before .before in
     let at = ready done in
-    let w = done .samples .ensures .plays (called done .circuit) (called done .waves) (laid at .lay-out .ensures .0) (loaded at) in
+    let w = done .samples .ensures .plays (called done .circuit) (called done .waves) (laid at .lay-out .ensures .0 _ (drawing at)) (loaded at) in
     (called done .circuit, played done .waves, seated (laid at), w .loaded)
 
 returns : tie.Need-returns
@@ -74,7 +102,7 @@ returns c =
     let done = c .before .before .before in
     let at = ready done in
     let k = called done in
-    let w = done .samples .ensures .plays (k .circuit) (k .waves) (laid at .lay-out .ensures .0) (loaded at) in
+    let w = done .samples .ensures .plays (k .circuit) (k .waves) (laid at .lay-out .ensures .0 _ (drawing at)) (loaded at) in
     let e : ran k ≡ worked k (played done) =
     ran-worked k (ap (λ n. n .number) (allowed-done k (record { cleared = cleared (begun done .pre .0); equal = begun done .pre .1 }))) in
     record {
@@ -87,5 +115,5 @@ returns c =
 pub play-spec : {M : Type 1} → statement M
 play-spec =
     tie.close
-    (tie.spec (λ c κs. search needs) (λ c κs. search needs) (λ c κs. (start (c .before) .args .r, seated (c .before)))
-    samples-requires unload-requires (λ c. search needs) returns)
+    (tie.spec (λ c κs. search needs) (λ c κs. search needs) (λ c κs. search needs) lines-of-requires
+    (λ c κs. let l = laid-out (c .before .before) in (start l .args .r, seated l)) samples-requires unload-requires (λ c. search needs) returns)

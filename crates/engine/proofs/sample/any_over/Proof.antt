@@ -17,18 +17,17 @@ abbrev μ-loop : tie.MeasureT-loop
 μ-loop n down s₀ s = n - s
 
 -- what the test says of the wave that is read
-tested : (c : tie.After-in-limit Inv-loop μ-loop) → not (c .in-limit .result) ≡ overAt (c .before .before .before .before .args .down .now) (c .before .before .before .loop .s)
+tested : (c : tie.After-in-limit Inv-loop μ-loop)
+    → let at-loop = c .before .before .before in not (c .in-limit .result) ≡ overAt (at-loop .before .args .down .now) (at-loop .loop .s)
 tested c = rw (c .in-limit .ensures, toZ-ofZ (record { sfits = c .before .t8 .given }))
 
 returns : tie.Need-returns Inv-loop μ-loop
-returns c =
-    let at-loop = c .before .before .before .before in
-    sym (Counting.some-true (overAt (at-loop .before .args .down .now)) (at-loop .before .args .n) (at-loop .loop .s) (omega arith) (sym (tested (c .before)) ∙ c .if1 .taken))
+returns c = sym (Counting.some-true _ _ (c .before .before .before .before .loop .s) (omega arith) (sym (tested (c .before)) ∙ c .if1 .taken))
 
 loop-again : tie.Need-loop-again Inv-loop μ-loop
 loop-again c =
     let at-loop = c .before .before .before .before in
-    (omega arith, Counting.some-step (overAt (at-loop .before .args .down .now)) (at-loop .loop .s) ∙ rw (at-loop .loop .inv .1) (sym (tested (c .before)) ∙ c .if1 .left))
+    (omega arith, Counting.some-step _ (at-loop .loop .s) ∙ rw (at-loop .loop .inv .1) (sym (tested (c .before)) ∙ c .if1 .left))
 
 returns-2 : tie.Need-returns-2 Inv-loop μ-loop
 returns-2 c = let done : c .before .loop .s ≡ c .before .before .args .n = omega arith in rw (← done) (sym (c .before .loop .inv .1))

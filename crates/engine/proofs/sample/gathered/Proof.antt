@@ -1,7 +1,7 @@
 -- `gathered` meets its contract. What `|` gathers is no less than each of its parts.
-use Prim.Native.Nat.{ℕ, _*_, _<_}
+use Prim.Native.Nat.{_*_, _<_}
 use native.Mathlib.Omega.{arith}
-use mathlib.Core.Path.{_≡_, refl, sym, ap, _∙_}
+use mathlib.Core.Path.{refl, sym, ap, _∙_}
 use lib.Bits.{bitOr, or-add-and, and-le-l, and-le-r}
 use lib.IntN.{ℤ, pos, negsuc, _+ℤ_}
 use borrow.Author.Needs.{needs}
@@ -25,10 +25,11 @@ calm (pos n) f h = record { few = (n, refl, h) }
 calm (negsuc n) f h = absurd (omega (arith, f .sfits))
 
 calm-parts : (a b : ℤ) → SFits w64 a → SFits w64 b → Calm (toZ w64 (bitOr (ofZ w64 a) (ofZ w64 b))) → Calm a × Calm b
-calm-parts a b fa fb h =
-    let bits : bitOr (ofZ w64 a) (ofZ w64 b) ≡ h .few .0 = sym (ofZ-toZ (fits-or (ofZ w64 a) (ofZ w64 b) (fits-ofZ fa) (fits-ofZ fb))) ∙ ap (ofZ w64) (h .few .1) in
+calm-parts a b f g h =
+    let bits = sym (ofZ-toZ (fits-or (ofZ w64 a) (ofZ w64 b) (fits-ofZ f) (fits-ofZ g))) ∙ ap (ofZ w64) (h .few .1) in
     let both = or-add-and (ofZ w64 a) (ofZ w64 b) in
-    (calm a fa (omega (arith, h .few .2, and-le-r (ofZ w64 a) (ofZ w64 b))), calm b fb (omega (arith, h .few .2, and-le-l (ofZ w64 a) (ofZ w64 b))))
+    let low = h .few .2 in
+    (calm a f (omega (arith, bits, and-le-r (ofZ w64 a) (ofZ w64 b))), calm b g (omega (arith, bits, and-le-l (ofZ w64 a) (ofZ w64 b))))
 
 sum-fits : (z : ℤ) → Abs z (downLimit adaptorLimit) → SFits w64 (z +ℤ pos waveLimit)
 sum-fits z m = omega (zfits, at z ⊞ at (pos waveLimit))

@@ -7,8 +7,6 @@ use mathlib.Core.List.{List}
 use borrow.Author.Needs.{needs}
 use borrow.Author.Tests.{not-true}
 use lib.IntN.{ℤ}
-use mir.Syntax.{w64}
-use mir.Val.{SFits}
 use mir.Facts.{toZ-ofZ}
 use Rattle.whole.specs.Order.{Abs}
 use Rattle.circuit.specs.Curve.{waveLimit}
@@ -28,23 +26,19 @@ returns : tie.Need-returns
 returns c =
     let start = c .before .before .before in
     let few = start .pre .0 in
-    let calm = c .before .may-be-over .ensures (not-true (c .before .may-be-over .result) (c .if2 .taken)) .1 in
+    let calm = c .before .may-be-over .ensures (not-true _ (c .if2 .taken)) .1 in
     sym (none-over (start .args .n) (start .args .down .now) (λ s l. calm s (omega arith)) (calm floor (omega arith)))
 
--- the wave at the floor
-fits : (c : tie.After-gathered-arg) → SFits w64 (storedAt (c .before .before .args .down .now) floor)
-fits c = record { sfits = c .gathered-arg .given }
-
 gathered-requires : tie.Need-gathered-requires
-gathered-requires c κs = rw (toZ-ofZ (fits c)) (c .before .before .pre .1 .small floor)
+gathered-requires c κs = rw (toZ-ofZ (record { sfits = c .gathered-arg .given })) (c .before .before .pre .1 .small _)
 
 returns-2 : tie.Need-returns-2
 returns-2 c =
     let at = c .before .before in
     let start = at .before .before .before in
-    let calm = c .before .may-be-over2 .ensures (not-true (c .before .may-be-over2 .result) (c .if3 .taken)) in
-    let floor-calm = rw (toZ-ofZ (fits (at .before))) at (at .gathered .ensures (rw (toZ-ofZ (record { sfits = at .gathered .ok })) at (calm .0)) .1) in
-    sym (none-over (start .args .n) (start .args .down .now) (calm .1) floor-calm)
+    let calm = c .before .may-be-over2 .ensures (not-true _ (c .if3 .taken)) in
+    let input = at .gathered .ensures (rw (toZ-ofZ (record { sfits = at .gathered .ok })) at (calm .0)) .1 in
+    sym (none-over (start .args .n) (start .args .down .now) (calm .1) (rw (toZ-ofZ (record { sfits = at .before .gathered-arg .given })) at input))
 
 returns-3 : tie.Need-returns-3
 returns-3 c = rw (c .before .before .any-over .ensures, c .in-limit .ensures, toZ-ofZ (record { sfits = c .before .t16 .given }))

@@ -6,8 +6,6 @@ use mathlib.Core.List.{List}
 use lib.IntN.{ℤ, pos}
 use lib.ListN.{length, set, length-set}
 use lib.Seq.{getD-set-other}
-use mir.Syntax.{w64}
-use mir.Val.{SFits}
 use mir.Facts.{toZ-ofZ}
 use Rattle.circuit.specs.Sample.{storedAt}
 use Rattle.engine.specs.Sample.{turnedBy, Restored}
@@ -24,16 +22,12 @@ abbrev μ-loop : tie.MeasureT-loop
 loop-holds : tie.Need-loop-holds Inv-loop μ-loop
 loop-holds c = (omega arith, record { long = refl; kept = λ s h. absurd (omega (arith, h)); rest = λ s h. refl })
 
--- the waves that are read
-fits : (c : tie.After-turned-arg2 Inv-loop μ-loop) → let at-loop = c .before .before .before in
-    SFits w64 (storedAt (at-loop .before .args .turns .now) (at-loop .loop .s)) × SFits w64 (storedAt (at-loop .before .args .down .now) (at-loop .loop .s))
-fits c = (record { sfits = c .before .turned-arg .given }, record { sfits = c .turned-arg2 .given })
-
 turned-requires : tie.Need-turned-requires Inv-loop μ-loop
 turned-requires c κs =
-    let at-loop = c .before .before .before in
+    let start = c .before .before .before .before in
     let inside = c .before .before .loop-test .taken in
-    rw (toZ-ofZ (fits c .0), toZ-ofZ (fits c .1)) (at-loop .before .pre .turn (at-loop .loop .s) inside, at-loop .before .pre .wave (at-loop .loop .s) inside)
+    rw (toZ-ofZ (record { sfits = c .before .turned-arg .given }), toZ-ofZ (record { sfits = c .turned-arg2 .given }))
+    (start .pre .turn _ inside, start .pre .wave _ inside)
 
 restored-more : {turns ds ups after : List ℤ} {s : ℕ} {v : ℤ} → Restored turns ds s ups after → s < length after
     → v ≡ turnedBy (storedAt turns s) (storedAt ds s) → Restored turns ds (s + 1) ups (set after s v)
@@ -45,10 +39,18 @@ restored-more {turns} {ds} {ups} {after} {s} {v} h inside e = record {
 
 loop-again : tie.Need-loop-again Inv-loop μ-loop
 loop-again c =
-    let at-loop = c .before .before .before .before in
-    let long = at-loop .loop .inv .1 .long in
-    let few = at-loop .before .pre .few in
-    (omega arith, restored-more (at-loop .loop .inv .1) (omega (arith, at-loop .before .pre .long)) (rw (toZ-ofZ (record { sfits = c .turned .ok }), c .turned .ensures, toZ-ofZ (fits (c .before) .0), toZ-ofZ (fits (c .before) .1))))
+    let at-turn = c .before in
+    let at-loop = at-turn .before .before .before in
+    let long = at-loop .loop .inv .1 .long in (
+      omega arith,
+      restored-more (at-loop .loop .inv .1) (omega (arith, at-loop .before .pre .long))
+          (rw (
+            toZ-ofZ (record { sfits = c .turned .ok }),
+            c .turned .ensures,
+            toZ-ofZ (record { sfits = at-turn .before .turned-arg .given }),
+            toZ-ofZ (record { sfits = at-turn .turned-arg2 .given }),
+          )),
+    )
 
 returns : tie.Need-returns Inv-loop μ-loop
 returns c = let done : c .before .loop .s ≡ c .before .before .args .q = omega arith in rw (← done) (c .before .loop .inv .1)

@@ -3,7 +3,7 @@ use Prim.Native.Nat.{ℕ, suc, _+_, _-_, _^_, _<_}
 use native.Mathlib.Nat.{mod-eq-of-lt}
 use native.Mathlib.Omega.{arith}
 use mathlib.Core.Path.{_≡_}
-use mathlib.Core.Logic.{⊎-elim}
+use mathlib.Core.Logic.{inl, inr}
 use lib.Bits.{bitXor, xor-add-and, xor-zero-r, and-mask}
 use lib.IntN.{ℤ, pos, negsuc, negℤ, _-ℤ_, +ℤ-idr}
 use mir.Syntax.{w64}
@@ -22,23 +22,19 @@ all-turned n m e = let h : n < 2 ^ 64 = omega arith in omega (arith, xor-add-and
 
 opposite : (a : ℤ) → SFits w64 a → toZ w64 (bitXor (ofZ w64 a) (2 ^ 64 - 1)) -ℤ negsuc 0 ≡ negℤ a
 opposite (pos n) f =
-    rw (all-turned n (2 ^ 64 - suc n) (omega (arith, f .sfits)), toZ-neg w64 n (f .sfits)) (omega (zarith, at (negsuc n) ⊟ at (negsuc 0), is-neg (at (pos n))))
+    rw (all-turned n (2 ^ 64 - suc n) (omega (arith, f .sfits)), toZ-neg w64 n (f .sfits))
+    (omega (zarith, at (negsuc n) ⊟ at (negsuc 0), is-neg (at (pos n))))
 opposite (negsuc n) f =
     rw (all-turned (2 ^ 64 - suc n) n (omega (arith, f .sfits)), toZ-pos w64 (f .sfits)) (omega (zarith, at (pos n) ⊟ at (negsuc 0)))
 
-module _ (t a : ℤ) (k : Turn t) (h : Abs a waveLimit) where
-  turns : toZ w64 (bitXor (ofZ w64 a) (ofZ w64 t)) -ℤ toZ w64 (ofZ w64 t) ≡ turnedBy t a
-  turns = ⊎-elim
-      (λ e. rw (e, xor-zero-r, toZ-ofZ (abs-fits h (omega arith))) (+ℤ-idr a))
-      (λ e. rw e (opposite a (abs-fits h (omega arith))))
-      k
-
-  fits : SFits w64 (turnedBy t a)
-  fits = ⊎-elim (λ e. rw e (abs-fits h (omega arith))) (λ e. rw e (abs-fits (abs-neg h) (omega arith))) k
+turns : {t a : ℤ} → Turn t → Abs a waveLimit
+    → (toZ w64 (bitXor (ofZ w64 a) (ofZ w64 t)) -ℤ toZ w64 (ofZ w64 t) ≡ turnedBy t a) × SFits w64 (turnedBy t a)
+turns {a = a} (inl e) h = let f = abs-fits h (omega arith) in rw (e, xor-zero-r, toZ-ofZ f) (+ℤ-idr a, f)
+turns {a = a} (inr e) h = rw e (opposite a (abs-fits h (omega arith)), abs-fits (abs-neg h) (omega arith))
 
 pub turned-spec : {M : Type 1} → statement M
 turned-spec =
     tie.close
     (tie.spec
-    (λ c. rw (turns (c .args .turn) (c .args .a) (c .pre .0) (c .pre .1)) (fits (c .args .turn) (c .args .a) (c .pre .0) (c .pre .1)))
-    (λ c. rw (turns (c .args .turn) (c .args .a) (c .pre .0) (c .pre .1)) (toZ-ofZ (fits (c .args .turn) (c .args .a) (c .pre .0) (c .pre .1)))))
+    (λ c. let t = turns (c .pre .0) (c .pre .1) in rw (t .0) (t .1))
+    (λ c. let t = turns (c .pre .0) (c .pre .1) in rw (t .0) (toZ-ofZ (t .1))))
