@@ -28,8 +28,8 @@ pub record Uses (f : ℕ → ℕ) (us : List ℕ) : Type 0 where
   pub size : length us ≡ rowLimit
   pub each : (j : ℕ) → j < rowLimit → getD us j 0 ≡ min 2 (f j)
 
-more : (k : ℕ) (f : ℕ → ℕ) (us : List ℕ) → Uses f us → Uses (λ j. f j + one (eqb k j)) (useMore k us)
-more k f us h = record { size = sized (ltb k rowLimit); each = λ j l. at j l (eqb k j) refl }
+one-use : (k : ℕ) (f : ℕ → ℕ) (us : List ℕ) → Uses f us → Uses (λ j. f j + one (eqb k j)) (useMore k us)
+one-use k f us h = record { size = sized (ltb k rowLimit); each = λ j l. at j l (eqb k j) refl }
   where
     with-more : Bool → List ℕ
     with-more b = cond b (set us k (min 2 (getD us k 0 + 1))) us
@@ -56,7 +56,7 @@ by-part : (p : Part) (f : ℕ → ℕ) (us : List ℕ) → Uses f us → Uses (�
 by-part Blank f us h = record { size = h .size; each = λ j l. rw (add-zero (f j)) (h .each j l) }
 by-part (Leaf e) f us h = record { size = h .size; each = λ j l. rw (add-zero (f j)) (h .each j l) }
 by-part (Adaptor a) f us h =
-    let twice = more (a .second) _ _ (more (a .first) f us h) in
+    let twice = one-use (a .second) _ _ (one-use (a .first) f us h) in
     record { size = twice .size; each = λ j l. rw (← add-assoc (f j) (one (eqb (a .first) j)) (one (eqb (a .second) j))) (twice .each j l) }
 
 pub counted : (rows : List Row) (n : ℕ) → Uses (λ k. total (λ j. names (rowIn rows j .part) k) n) (usesIn rows n)

@@ -12,7 +12,8 @@ use lib.ListN.{getD}
 use Rattle.circuit.specs.Counting.{between, table}
 use Rattle.circuit.specs.Numbers.{lowest}
 use Rattle.circuit.specs.Record.{rowLimit, partAt}
-use Rattle.circuit.specs.SetUp.{nothing, parts, portOf, inRange, resistanceAt, ratioAt, preparedPart, preparedRows, portResistanceRule, ratioFault, ratioRule}
+use Rattle.circuit.specs.SetUp.{nothing, parts, portOf, resistanceAt, ratioAt, preparedPart, preparedRows}
+use Rattle.circuit.specs.SetUp.{inRange, portResistanceRule, ratioFault, ratioRule}
 use Rattle.circuit.specs.declared.Part.{Part}
 use Rattle.circuit.specs.declared.Part.the-variants.{Blank, Leaf, Adaptor}
 use Rattle.circuit.specs.declared.Prepared.{Prepared}
@@ -60,14 +61,16 @@ module _ (r : Record) (rooted : Rooted r) where
   pub filled-blank : (j : ℕ) → r .count ≤ j → filledRow r j ≡ nothing
   filled-blank j l = let e = rooted .blank j l in ap properRow (sym (port-row j Blank e))
 
-  pub fills : (Rs : List Float) (j : ℕ) → ((k : ℕ) → k < j → getD Rs k nan ≡ resistanceAt r k) → preparedFrom (r .rate) (partAt r j) Rs ≡ filledRow r j
+  pub fills : (Rs : List Float) (j : ℕ) → ((k : ℕ) → k < j → getD Rs k nan ≡ resistanceAt r k)
+      → preparedFrom (r .rate) (partAt r j) Rs ≡ filledRow r j
   unfolding preparedFrom Lower
   fills Rs j below = by (partAt r j) refl
     where
       by : (p : Part) → partAt r j ≡ p → preparedFrom (r .rate) p Rs ≡ filledRow r j
       by Blank e = ap properRow (port-row j Blank e)
       by (Leaf x) e =
-          ap (λ R. row R 0) (sym (resistance-leaf r lower j (tree-leaf r lower j x e) ∙ ap (portOf (r .rate)) e)) ∙ ap properRow (port-row j (Leaf x) e)
+          ap (λ R. row R 0) (sym (resistance-leaf r lower j (tree-leaf r lower j x e) ∙ ap (portOf (r .rate)) e))
+          ∙ ap properRow (port-row j (Leaf x) e)
       by (Adaptor a) e =
           let l = rw e at (lower j) in
           ap₂ (joinedRow (a .join)) (below (a .first) (l .0)) (below (a .second) (l .1))

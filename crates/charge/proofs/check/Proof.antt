@@ -17,7 +17,8 @@ returns c =
     let set = c .before .before in
     let told = set .set-up .ensures .number in
     record {
-      number = told ∙ sym (charged-judged (charged (set .before)) ∙ else-first _ _ (rw (← told) (omega (arith, c .before .number .ensures, c .if1 .taken))));
+      number = told
+          ∙ sym (charged-judged (charged (set .before)) ∙ else-first _ _ (rw (← told) (omega (arith, c .before .number .ensures, c .if1 .taken))));
       rows = set .set-up .ensures .rows;
     }
 
@@ -25,7 +26,8 @@ returns-2 : tie.Need-returns-2
 returns-2 c =
     let set = c .before .before .before .before in
     let k = charged (set .before) in
-    let passed = ap (λ n. n .number) (sym (set .set-up .ensures .number)) ∙ sym (c .before .before .before .number .ensures) ∙ c .before .before .if1 .left in
+    let passed = ap (λ n. n .number) (sym (set .set-up .ensures .number))
+    ∙ sym (c .before .before .before .number .ensures) ∙ c .before .before .if1 .left in
     record {
       number = last-judges 12 (λ (k : Charged). storedWavesRule (k .circuit) (k .waves)) k (c .stored-waves .result) (c .stored-waves .ensures)
           ∙ sym (charged-judged k ∙ else-next _ _ passed);

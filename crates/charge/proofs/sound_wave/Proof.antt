@@ -28,7 +28,8 @@ leaf-test p w reactive told e = rw (told, ← e)
 returns : tie.Need-returns
 returns c =
     let start = c .before .before .before in
-    tested (start .fits .w) (λ z. eqb (natAbs z) 0) (c .is-zero .ensures) ∙ sym (ap (λ p. soundWave p (start .args .w)) (c .before .enum-told .given .1))
+    tested (start .fits .w) (λ z. eqb (natAbs z) 0) (c .is-zero .ensures)
+    ∙ sym (ap (λ p. soundWave p (start .args .w)) (c .before .enum-told .given .1))
 
 returns-2 : tie.Need-returns-2
 returns-2 c =
@@ -47,7 +48,8 @@ returns-3 c =
 returns-4 : tie.Need-returns-4
 returns-4 c =
     let start = c .before .before .before in
-    tested (start .fits .w) (λ z. eqb (natAbs z) 0) (c .is-zero3 .ensures) ∙ sym (ap (λ p. soundWave p (start .args .w)) (c .before .enum-told2 .given .1))
+    tested (start .fits .w) (λ z. eqb (natAbs z) 0) (c .is-zero3 .ensures)
+    ∙ sym (ap (λ p. soundWave p (start .args .w)) (c .before .enum-told2 .given .1))
 
 pub sound-wave-spec : {M : Type 1} → statement M
 sound-wave-spec =

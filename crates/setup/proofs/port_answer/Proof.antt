@@ -26,13 +26,15 @@ returns c =
     let start = ranged .before .before .before in
     let r = start .args .r in
     let rooted = start .pre .0 in
-    let at = resistance-at r rooted (start .args .resistances .now) (start .args .ratios .now) (start .pre .1) (r .count - 1) (omega (arith, rooted .formed .short)) in
-    let fit = last-judges 11 curveResistanceRule r _ (fitted .curve-resistance-rule .ensures ∙ ap (λ (R : Float). numbered 11 (unless (fits (r .resistance) R) 0)) at) in
+    let filled = start .pre .1 in
+    let top = resistance-at r rooted _ _ filled (r .count - 1) (omega (arith, rooted .formed .short)) in
+    let same = ap (λ (R : Float). numbered 11 (unless (fits (r .resistance) R) 0)) top in
+    let fit = last-judges 11 curveResistanceRule r _ (fitted .curve-resistance-rule .ensures ∙ same) in
     let curve = ap handed (last .or .ensures) ∙ first-judges 9 columnRule _ r _ _ (drawn .column-rule .ensures) fit in
-    let ratio = ap handed (second .or2 .ensures)
-    ∙ first-judges 8 ratioRule _ r _ _ (rated .ratio-rule .ensures ∙ ap (numbered 9) (ratio-rule r rooted _ _ (start .pre .1))) curve in
-    ap handed (c .or3 .ensures)
-    ∙ first-judges 7 portResistanceRule _ r _ _ (ranged .resistance-rule .ensures ∙ ap (numbered 8) (resistance-rule r rooted _ _ (start .pre .1))) ratio
+    let rates = rated .ratio-rule .ensures ∙ ap (numbered 9) (ratio-rule r rooted _ _ filled) in
+    let ratio = ap handed (second .or2 .ensures) ∙ first-judges 8 ratioRule _ r _ _ rates curve in
+    let ranges = ranged .resistance-rule .ensures ∙ ap (numbered 8) (resistance-rule r rooted _ _ filled) in
+    ap handed (c .or3 .ensures) ∙ first-judges 7 portResistanceRule _ r _ _ ranges ratio
 
 pub port-answer-spec : {M : Type 1} → statement M
 port-answer-spec =

@@ -39,15 +39,17 @@ returns-2 c =
     let at = passed c .before .before in
     let ports = filled (at .before) in
     let r = ports .before .args .r in
-    let zero : setUpReport r .number ≡ 0 = ap (λ n. n .number) (sym (told at)) ∙ sym (passed c .before .number .ensures) ∙ passed c .if1 .left in
+    let done : handed (at .port-answer .result) .number ≡ 0 = omega (arith, passed c .before .number .ensures, passed c .if1 .left) in
+    let zero : setUpReport r .number ≡ 0 = ap (λ n. n .number) (sym (told at)) ∙ done in
     let accepted = accepting r (sized r _ (ports .before .good .0)) (set-up-done r zero) in
     record {
       number = told at;
-      rows = c .prepared-rows .ensures ∙ rows-prepared r (rooted (ports .before)) _ _ (ports .ports-of .ensures) (accepted .ratio) ∙ accepted-rows r zero;
+      rows = c .prepared-rows .ensures
+          ∙ rows-prepared r (rooted (ports .before)) _ _ (ports .ports-of .ensures) (accepted .ratio) ∙ accepted-rows r zero;
     }
 
 pub prepare-spec : {M : Type 1} → statement M
 prepare-spec =
     tie.close
-    (tie.spec (λ c κs. rooted c) (λ c κs. (rooted (filled c .before), filled c .ports-of .ensures)) (λ c κs. search needs) (λ c κs. search needs) returns
-    (λ c κs. search needs) returns-2)
+    (tie.spec (λ c κs. rooted c) (λ c κs. (rooted (filled c .before), filled c .ports-of .ensures)) (λ c κs. search needs) (λ c κs. search needs)
+    returns (λ c κs. search needs) returns-2)

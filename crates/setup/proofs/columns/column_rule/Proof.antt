@@ -13,7 +13,8 @@ unfolding columnRule
 returns c =
     let r = c .before .before .before .args .r in
     ap handed (c .or .ensures)
-    ∙ first-then 9 (lowest (λ i. not (soundColumn r i)) (r .width)) (unless (passesOrigin (r .kind) r) 0) (c .before .before .lowest-column .result) (c .before .origin-rule .result) (c .before .before .lowest-column .ensures) (c .before .origin-rule .ensures)
+    ∙ first-then 9 (lowest (λ i. not (soundColumn r i)) (r .width)) (unless (passesOrigin (r .kind) r) 0) _ _
+    (c .before .before .lowest-column .ensures) (c .before .origin-rule .ensures)
 
 pub column-rule-spec : {M : Type 1} → statement M
 column-rule-spec = tie.close (tie.spec (λ c κs. search needs) (λ c κs. search needs) (λ c κs. search needs) returns)

@@ -23,7 +23,9 @@ unfolding some
 loop-holds c = record { inside = omega arith; value = refl }
 
 loop-again : tie.Need-loop-again Inv-loop μ-loop
-loop-again c = let at = c .before .before .before .loop in onward (at .inv) (omega arith) (some-next _ (at .i) (at .inv .value) (c .at-origin .ensures))
+loop-again c =
+    let at = c .before .before .before .loop in
+    onward (at .inv) (omega arith) (some-next _ (at .i) (at .inv .value) (c .at-origin .ensures))
 
 pub has-origin-spec : {M : Type 1} → statement M
 has-origin-spec =

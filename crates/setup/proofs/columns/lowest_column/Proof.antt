@@ -48,7 +48,9 @@ record-of c = c .before .before .args .r
 
 told : (c : tie.After-sound-column Inv-loop μ-loop)
     → not (c .sound-column .result) ≡ fault (record-of (turn c) .kind) (record-of (turn c) .columns) (turn c .loop .i) (turn c .loop .i - 1)
-told c = ap not (c .sound-column .ensures) ∙ ap (fault (record-of (turn c) .kind) (record-of (turn c) .columns) (turn c .loop .i)) (turn c .loop .inv .1)
+told c =
+    ap not (c .sound-column .ensures)
+    ∙ ap (fault (record-of (turn c) .kind) (record-of (turn c) .columns) (turn c .loop .i)) (turn c .loop .inv .1)
 
 returns : tie.Need-returns Inv-loop μ-loop
 unfolding handed

@@ -27,7 +27,8 @@ loop-holds c = (omega arith, record { inside = c .before .before .pre; value = s
 loop-again : tie.Need-loop-again Inv-loop μ-loop
 loop-again c =
     let at = c .before .before .before .loop in
-    (omega arith, onward (at .inv .1) (omega arith) (every-next _ (at .i) (at .inv .1 .value) (rw (le-ltb (at .i) _ (at .inv .0)) (c .at-origin .ensures))))
+    let past = le-ltb (at .i) _ (at .inv .0) in
+    (omega arith, onward (at .inv .1) (omega arith) (every-next _ (at .i) (at .inv .1 .value) (rw past (c .at-origin .ensures))))
 
 pub blank-columns-spec : {M : Type 1} → statement M
 blank-columns-spec =

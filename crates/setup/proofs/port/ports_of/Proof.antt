@@ -50,9 +50,12 @@ loop-again c =
     let start = at .before .before .before in
     let r = start .args .r in
     let j = at .loop .j in
-    let filled = c .prepared-row .ensures ∙ fills r (start .pre) (at .loop .resistances) j (λ k l. table-at (resistanceAt r) _ j k nan (at .loop .inv .0 .value) l) in (
-      onward (at .loop .inv .0) (omega arith) (table-next _ _ j (at .loop .inv .0 .value) (omega arith) (ap (λ (q : Prepared). q .resistance) filled)),
-      onward (at .loop .inv .1) (omega arith) (table-next _ _ j (at .loop .inv .1 .value) (omega arith) (ap (λ (q : Prepared). q .ratio) filled)),
+    let Rs = at .loop .inv .0 in
+    let gs = at .loop .inv .1 in
+    let filled = c .prepared-row .ensures
+    ∙ fills r (start .pre) (at .loop .resistances) j (λ k l. table-at (resistanceAt r) _ j k nan (Rs .value) l) in (
+      onward Rs (omega arith) (table-next _ _ j (Rs .value) (omega arith) (ap (λ (q : Prepared). q .resistance) filled)),
+      onward gs (omega arith) (table-next _ _ j (gs .value) (omega arith) (ap (λ (q : Prepared). q .ratio) filled)),
     )
 
 returns : tie.Need-returns Inv-loop μ-loop
@@ -64,8 +67,10 @@ returns c =
     let short = start .pre .formed .short in
     let rest = filled-blank r (start .pre) in
     record {
-      resistances = whole (at .loop .inv .0) (c .loop-test .left) ∙ table-rest (resistanceAt r) _ (r .count) rowLimit short (λ k l. ap (λ (q : Prepared). q .resistance) (rest k l));
-      ratios = whole (at .loop .inv .1) (c .loop-test .left) ∙ table-rest _ 0 (r .count) rowLimit short (λ k l. ap (λ (q : Prepared). q .ratio) (rest k l));
+      resistances = whole (at .loop .inv .0) (c .loop-test .left)
+          ∙ table-rest (resistanceAt r) _ (r .count) rowLimit short (λ k l. ap (λ (q : Prepared). q .resistance) (rest k l));
+      ratios = whole (at .loop .inv .1) (c .loop-test .left)
+          ∙ table-rest _ 0 (r .count) rowLimit short (λ k l. ap (λ (q : Prepared). q .ratio) (rest k l));
     }
 
 pub ports-of-spec : {M : Type 1} → statement M

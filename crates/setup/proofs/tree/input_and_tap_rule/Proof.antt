@@ -23,4 +23,6 @@ returns-2 c =
     (ap (λ (b : Bool). numbered 6 (unless b noRow)) (sym (c .if1 .left)))
 
 pub input-and-tap-rule-spec : {M : Type 1} → statement M
-input-and-tap-rule-spec = tie.close (tie.spec (λ c κs. search needs) (λ c. search needs) (λ c κs. search needs) (λ c κs. search needs) returns returns-2)
+input-and-tap-rule-spec =
+    tie.close
+    (tie.spec (λ c κs. search needs) (λ c. search needs) (λ c κs. search needs) (λ c κs. search needs) returns returns-2)

@@ -33,12 +33,15 @@ abbrev μ-loop : tie.MeasureT-loop
 μ-loop uses last k₀ k = last - k
 
 -- what a search of the uses tells of the record
-same : (c : tie.After-uses Inv-loop μ-loop) → numbered 6 (lowest (fault (c .uses .result)) (c .before .args .r .count - 1)) ≡ numbered 6 (usedOnceRule (c .before .args .r))
+same : (c : tie.After-uses Inv-loop μ-loop)
+    → numbered 6 (lowest (fault (c .uses .result)) (c .before .args .r .count - 1)) ≡ numbered 6 (usedOnceRule (c .before .args .r))
 unfolding usedOnceRule
 same c =
     let r = c .before .args .r in
     let short = c .before .pre .short in
-    ap (numbered 6) (lowest-same (fault (c .uses .result)) _ (r .count - 1) (λ k l. ap (λ n. not (eqb n 1)) (c .uses .ensures k (omega arith)) ∙ ap not (one-of (uses r k))))
+    ap (numbered 6)
+    (lowest-same (fault (c .uses .result)) _ (r .count - 1)
+    (λ k l. ap (λ n. not (eqb n 1)) (c .uses .ensures k (omega arith)) ∙ ap not (one-of (uses r k))))
 
 returns : tie.Need-returns Inv-loop μ-loop
 unfolding handed

@@ -22,7 +22,9 @@ unfolding usesIn
 loop-holds c = record { inside = omega arith; value = refl }
 
 loop-again : tie.Need-loop-again Inv-loop μ-loop
-loop-again c = let at = c .before .before .before .before .loop in onward (at .inv) (omega arith) (c .use-children .ensures ∙ uses-next _ (at .j) (at .inv .value))
+loop-again c =
+    let at = c .before .before .before .before .loop in
+    onward (at .inv) (omega arith) (c .use-children .ensures ∙ uses-next _ (at .j) (at .inv .value))
 
 returns : tie.Need-returns Inv-loop μ-loop
 unfolding uses
