@@ -1,6 +1,6 @@
 -- Every number from 1 to 15, with its place, at an input that gets it, and beside a limit an input that just passes. One table, worked out.
 use Prim.Native.Nat.{ℕ, _+_, _-_}
-use mathlib.Core.Path.{_≡_, refl}
+use mathlib.Core.Path.{_≡_, refl, ap₂}
 use mathlib.Core.Bool.{Bool, true, false}
 use mathlib.Core.List.{List, [], _∷_, _++_, map}
 use lib.ListN.{length, set, replicate}
@@ -96,9 +96,10 @@ files =
     ∷ gives (readReport (block 0 [] ++ block 1 [] ++ block 2 [])) (report 3 0)
     ∷ []
 
+-- with its first line apart, a table is worked out once, and not once for each side
 files-refused : map (λ (l : Line). l .found) files ≡ map (λ (l : Line). l .paper) files
 unfolding working files
-files-refused = refl
+files-refused = ap₂ _∷_ refl refl
 
 -- one byte of the heading that nothing uses set
 spoiled : List ℕ
@@ -195,7 +196,7 @@ records =
 
 records-refused : map (λ (l : Line). l .found) records ≡ map (λ (l : Line). l .paper) records
 unfolding working records case1With atRate counting level parts pair
-records-refused = refl
+records-refused = ap₂ _∷_ refl refl
 
 -- numbers 12 to 15 of a run
 runs : List Line
@@ -221,4 +222,4 @@ runs =
 
 runs-refused : map (λ (l : Line). l .found) runs ≡ map (λ (l : Line). l .paper) runs
 unfolding working runs stack sampling straight parts fresh
-runs-refused = refl
+runs-refused = ap₂ _∷_ refl refl

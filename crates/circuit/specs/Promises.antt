@@ -1,8 +1,9 @@
 -- What the public functions promise: of all that goes in, what is handed back and what every lent buffer holds afterwards.
 use Prim.Native.Nat.{ℕ}
 use mathlib.Core.Path.{_≡_}
-use mathlib.Core.List.{List, _++_}
+use mathlib.Core.List.{List, _++_, map}
 use lib.IntN.{ℤ}
+use lib.Ieee.{Float}
 use lib.ListN.{length, drop}
 use Rattle.circuit.specs.Numbers.{handed, judge}
 use Rattle.circuit.specs.SetUp.{setUpReport, setUpRows}
@@ -13,7 +14,9 @@ use Rattle.circuit.specs.Words.{meaning}
 use Rattle.circuit.specs.Take.{UnderWay, Feeding, fed, ended}
 use Rattle.circuit.specs.declared.Answer.{Answer}
 use Rattle.circuit.specs.declared.Record.{Record}
+use Rattle.circuit.specs.declared.Prepared.{Prepared}
 use Rattle.circuit.specs.declared.SetUp.{SetUp}
+use Rattle.circuit.specs.declared.Ports.{Ports}
 use Rattle.circuit.specs.declared.Reading.{Reading}
 use Rattle.circuit.specs.declared.Opened.{Opened}
 use Rattle.circuit.specs.declared.Listed.{Listed}
@@ -25,10 +28,24 @@ pub record SetsUp (r : Record) (s : SetUp) : Type 0 where
   pub number : handed (s .answer) ≡ setUpReport r
   pub rows : s .rows ≡ setUpRows r
 
--- 4 to 12 of a circuit with its stored waves, and set-up's rows
-pub record Charges (k : Charged) (s : SetUp) : Type 0 where
-  pub number : handed (s .answer) ≡ judge chargedRules k
-  pub rows : s .rows ≡ setUpRows (k .circuit)
+-- prepared rows as lists
+abbrev pub resistancesOf : List Prepared → List Float
+resistancesOf = map (λ q. q .resistance)
+
+abbrev pub ratiosOf : List Prepared → List ℕ
+ratiosOf = map (λ q. q .ratio)
+
+-- set-up, with its rows as lists
+pub record Finds (r : Record) (p : Ports) : Type 0 where
+  pub number : handed (p .answer) ≡ setUpReport r
+  pub resistances : p .resistances ≡ resistancesOf (setUpRows r)
+  pub ratios : p .ratios ≡ ratiosOf (setUpRows r)
+
+-- 4 to 12 of a circuit with its stored waves, and what set-up finds
+pub record Charges (k : Charged) (p : Ports) : Type 0 where
+  pub number : handed (p .answer) ≡ judge chargedRules k
+  pub resistances : p .resistances ≡ resistancesOf (setUpRows (k .circuit))
+  pub ratios : p .ratios ≡ ratiosOf (setUpRows (k .circuit))
 
 -- reading a file's bytes
 pub record Reads (bytes : List ℕ) (s : Reading) : Type 0 where

@@ -297,6 +297,13 @@ pub struct SetUp {
     pub rows: [Prepared; ROWS],
 }
 
+// The same as lists: the rows' port resistances in ohms, and their ratios in parts of 2^24.
+pub struct Ports {
+    pub answer: Answer,
+    pub resistances: [f64; ROWS],
+    pub ratios: [u32; ROWS],
+}
+
 // What reading hands back; on refusal the record is the one of zeros.
 pub struct Reading {
     pub answer: Answer,

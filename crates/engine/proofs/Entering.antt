@@ -15,11 +15,10 @@ use Rattle.circuit.specs.Record.{rowIn, partAt, isAdaptor}
 use Rattle.circuit.specs.SetUp.{ratioAt}
 use Rattle.circuit.specs.declared.Adaptor.{Adaptor as Joint}
 use Rattle.circuit.specs.declared.Part.the-variants.{Adaptor}
-use Rattle.circuit.specs.declared.Prepared.{Prepared}
 use Rattle.circuit.specs.declared.Row.{Row}
 use Rattle.circuit.specs.declared.Record.{Record}
 use Rattle.laws.specs.Accepted.{adaptorLimit, Lower}
-use Rattle.engine.specs.Plan.{floor, slotOf, Joints, jointsOf, joinOf, Staged, ratioIn, Layable, Roomy}
+use Rattle.engine.specs.Plan.{floor, slotOf, Joints, jointsOf, joinOf, Staged, Layable, Roomy}
 use Rattle.engine.proofs.Fill.{stored-more}
 use Rattle.engine.proofs.Roles.{role, joint-of}
 use Rattle.engine.proofs.Slots.{rowAt, joint-at, same-row, adaptor-slot}
@@ -45,7 +44,7 @@ abbrev pub put : Joints → ℕ → ℕ → ℕ → ℕ → ℤ → Joints
 put js k code first second ratio =
     jointsOf (set (js .joins) k code) (set (js .firsts) k first) (set (js .seconds) k second) (set (js .ratios) k ratio)
 
-module _ {r : Record} {prepared : List Prepared} {slots : List ℕ} (h : Layable r prepared slots) where
+module _ {r : Record} {prepared slots : List ℕ} (h : Layable r prepared slots) where
   -- an adaptor stands above the floor, its place is in range, and its children are lower rows
   pub high : (j : ℕ) (a : Joint) → j < r .count → partAt r j ≡ Adaptor a → (floor < slotOf r j) × (placeOf r j < adaptorLimit)
   high j a l e = let s = adaptor-slot (h .slotted) j l e in (s .0, omega (arith, h .slotted .few))
@@ -111,14 +110,14 @@ passed-over {r} {i = i} plain done = record {
 -- ---- of every circuit that is laid out so
 
 -- the lists have room, and the first n rows' adaptors are entered
-pub record Filled (rows : List Row) (count : ℕ) (prepared : List Prepared) (slots : List ℕ) (n : ℕ) (js : Joints) : Type 0 where
+pub record Filled (rows : List Row) (count : ℕ) (prepared slots : List ℕ) (n : ℕ) (js : Joints) : Type 0 where
   pub room : Roomy js
   pub entered : (r : Record) → r .rows ≡ rows → r .count ≡ count → Layable r prepared slots → Entered r n js
 
 part-of : {rows : List Row} (r : Record) (i : ℕ) → r .rows ≡ rows → partAt r i ≡ rowIn rows i .part
 part-of r i e = ap (λ (rows : List Row). rowIn rows i .part) e
 
-module _ {rows : List Row} {count : ℕ} {prepared : List Prepared} {slots : List ℕ} {js : Joints} where
+module _ {rows : List Row} {count : ℕ} {prepared slots : List ℕ} {js : Joints} where
   pub filled-none : Roomy js → Filled rows count prepared slots 0 js
   filled-none room = record {
     room = room;
@@ -133,7 +132,7 @@ module _ {rows : List Row} {count : ℕ} {prepared : List Prepared} {slots : Lis
     }
 
     pub filled-more : (a : Joint) → rowIn rows i .part ≡ Adaptor a → i < count → (k code : ℕ) → k ≡ getD slots i 0 - floor - 1 → joinOf code ≡ a .join
-        → Filled rows count prepared slots (i + 1) (put js k code (getD slots (a .first) 0) (getD slots (a .second) 0) (toZ w64 (ratioIn prepared i)))
+        → Filled rows count prepared slots (i + 1) (put js k code (getD slots (a .first) 0) (getD slots (a .second) 0) (toZ w64 (getD prepared i 0)))
     filled-more a part inside k code place kind = record {
       room = record {
         joins = length-set (js .joins) k _ ∙ done .room .joins;

@@ -80,16 +80,20 @@ module _ {js : Joints} {n : ℕ} (s : Swept js n) where
   module _ {own : ℕ} {j : Join} {slots : Bool → ℕ} {g : ℤ} (t : Turn r own j slots g) {top : ℤ} {ds : List ℤ} (falling : Falling r w top own ds) where
     open Turn t using (row, joint, inside, part, place, join, child)
 
-    -- its own wave came from the top, or from the adaptor above
+    -- its own wave came from the top, or from the adaptor above, in row p
+    from-above : (p : ℕ) (a : Joint) (side : Bool) → p < r .count → partAt r p ≡ Adaptor a → row ≡ childOf a side → own < slotOf r p
+        → Abs (storedAt ds own) (downLimit (topSlot r - own))
+    from-above p a side l e c higher =
+        abs-as (falling .sent p a l e higher .small side) (ap (storedAt ds) (ap (slotOf r) (sym c) ∙ place))
+        (omega (arith, adaptor-slot slotted p l e))
+
     own-range : Abs (storedAt ds own) (downLimit (topSlot r - own))
     own-range = elim (ℕ-discrete row (r .count - 1)) [
       | yes e ↦ abs-as (falling .quiet) (sym (ap (storedAt ds) (sym place ∙ ap (slotOf r) e ∙ slotted .last) ∙ falling .above)) (omega arith)
       | no f ↦
           let p = accepted .used row (omega (arith, inside)) in
           let a = parent-is (partAt r (p .0)) row (p .1 .child) in
-          let higher : own < slotOf r (p .0) = rw (← place) (slotted .above (p .0) row (p .1 .child)) in
-          abs-as (falling .sent (p .0) (a .0) (p .1 .inside) (a .2) higher .small (a .1)) (ap (storedAt ds) (ap (slotOf r) (sym (a .3)) ∙ place))
-          (omega (arith, adaptor-slot slotted (p .0) (p .1 .inside) (a .2)))
+          from-above (p .0) (a .0) (a .1) (p .1 .inside) (a .2) (a .3) (rw (← place) (slotted .above (p .0) row (p .1 .child)))
     ]
 
     own-read : readAt ds own ≡ storedAt ds own

@@ -1,3 +1,4 @@
+pub mod Calling
 pub mod Entering
 pub mod Fall
 pub mod Fill

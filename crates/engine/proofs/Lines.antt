@@ -8,8 +8,8 @@ use mathlib.Core.Logic.{⊎-elim}
 use mathlib.Core.List.{List, [], _∷_}
 use borrow.Author.Count.{below-none}
 use borrow.Author.Tests.{lt-ltb, le-ltb}
-use lib.ListN.{getD, set, replicate, length-set, length-replicate, getD-replicate}
-use lib.Seq.{getD-set-other}
+use lib.ListN.{length, getD, set, length-set}
+use lib.Seq.{getD-set-same, getD-set-other}
 use lib.IntN.{ℤ, pos, negsuc, _+ℤ_, _-ℤ_, _*ℤ_}
 use lib.Signed.{_≤ℤ_, _<ℤ_, quotZ}
 use mir.Syntax.{w32, w64}
@@ -138,15 +138,21 @@ module _ {columns : List Column} {width : ℕ} (p : Plotted columns width) where
 
 -- ---- lines laid one by one
 
-pub laid-none : {columns : List Column} {width : ℕ} {l : List ℤ} → l ≡ lastLine columns width → Laid columns width 0 (replicate lineLimit l)
-laid-none {l = l} e = record { long = length-replicate lineLimit l; line = below-none _; rest = λ n h k. getD-replicate lineLimit n l [] k ∙ e }
+-- the last is laid first
+pub laid-last : {columns : List Column} {width : ℕ} → Plotted columns width → (lines : List (List ℤ)) {l : List ℤ}
+    → length lines ≡ lineLimit → l ≡ lastLine columns width → Laid columns width 0 (set lines width l)
+laid-last {width = width} p lines {l} long e = record {
+  long = length-set lines width l ∙ long;
+  line = below-none _;
+  last = getD-set-same lines width l [] (omega (arith, p .narrow)) ∙ e;
+}
 
 pub laid-more : {columns : List Column} {width i : ℕ} {lines : List (List ℤ)} {l : List ℤ}
     → Laid columns width i lines → i < width → i < lineLimit → l ≡ lineIn columns i → Laid columns width (i + 1) (set lines i l)
-laid-more {columns} {i = i} {lines} {l} d inside few e = record {
+laid-more {columns} {width} {i} {lines} {l} d inside few e = record {
   long = length-set lines i l ∙ d .long;
   line = filled-more (λ n m. m ≡ lineIn columns n) [] lines i l (rw (d .long) few) (d .line) e;
-  rest = λ n h k. getD-set-other lines i n l [] (λ same. omega arith) ∙ d .rest n h k;
+  last = getD-set-other lines i width l [] (λ same. omega arith) ∙ d .last;
 }
 
 -- ---- the definition's pieces
@@ -173,8 +179,9 @@ module _ {r : Record} {lines : List (List ℤ)} (d : Drawing r lines) {a : ℤ} 
   unfolding piece
   past zero e = absurd (omega (arith, d .drawn .two))
   past (suc n) e =
+      let line = ap (λ (k : ℕ). getD lines k []) e ∙ d .laid .last in
       let last : r .width - 1 ≡ n = omega arith in
-      rw (d .laid .rest (suc n) (omega arith) (omega (arith, d .narrow)), le-ltb (suc n) (r .width) (omega arith), last)
+      rw (line, le-ltb (suc n) (r .width) (omega arith), last)
       (steps beyond (columnIn columns n) oneDown (level columns-plotted n (omega arith) (negsuc 0) (omega zarith)) w)
 
   pub piece-steps : (n : ℕ) → n ≤ r .width → Piece n
@@ -186,22 +193,16 @@ module _ {r : Record} {lines : List (List ℤ)} (d : Drawing r lines) {a : ℤ} 
   edge-is zero l = ap edgeOf (d .laid .line 0 l)
   edge-is (suc n) l = ap edgeOf (d .laid .line (suc n) l)
 
-  -- no wave passes an edge past the columns
-  pub edge-passed : (n : ℕ) → n < lineLimit → edgeOf (getD lines n []) ≤ℤ a → n < r .width
-  edge-passed n few h = by (decLt n (r .width))
+  -- edges passed are at columns: no wave passes the one after them
+  pub passed-most : (n : ℕ) → ((k : ℕ) → k < n → edgeOf (getD lines k []) ≤ℤ a) → n ≤ r .width
+  passed-most n left = by (decLt (r .width) n)
     where
-      by : Dec (n < r .width) → n < r .width
-      by (yes l) = l
-      by (no f) = let end = rw (d .laid .rest n (omega arith) few) at h in absurd (let none : ⊥ = omega zarith in none)
+      by : Dec (r .width < n) → n ≤ r .width
+      by (yes l) = let end = rw (d .laid .last) at (left (r .width) l) in absurd (let none : ⊥ = omega zarith in none)
+      by (no f) = omega arith
 
-  -- the edge before n is passed
-  pub passed-most : (n : ℕ) → n < lineLimit → ((k : ℕ) → n ≡ suc k → edgeOf (getD lines k []) ≤ℤ a) → n ≤ r .width
-  passed-most zero few left = omega arith
-  passed-most (suc k) few left = edge-passed k (omega arith) (left k refl)
-
-  -- and edge n is not
-  pub passed-count : (n : ℕ) → n < lineLimit → ((k : ℕ) → n ≡ suc k → edgeOf (getD lines k []) ≤ℤ a) → a <ℤ edgeOf (getD lines n [])
-      → n ≡ passed r (whole a)
-  passed-count n few left right =
-      let most = passed-most n few left in
-      sym (passed-is (d .drawn) a n most (λ k e. rw (← edge-is k (omega arith)) (left k e)) (λ l. rw (← edge-is n l) right))
+  -- the edges before n are passed, and edge n is not
+  pub passed-count : (n : ℕ) → ((k : ℕ) → k < n → edgeOf (getD lines k []) ≤ℤ a) → a <ℤ edgeOf (getD lines n []) → n ≡ passed r (whole a)
+  passed-count n left right =
+      let most = passed-most n left in
+      sym (passed-is (d .drawn) a n most (λ k e. rw (← edge-is k (omega arith)) (left k (omega arith))) (λ l. rw (← edge-is n l) right))

@@ -6,7 +6,7 @@ use mathlib.Core.Path.{_≡_, refl, sym, _∙_}
 use mathlib.Core.Bool.{true, false}
 use mathlib.Core.List.{List}
 use lib.Dec.{eqb}
-use lib.ListN.{length, getD, replicate}
+use lib.ListN.{length, getD, replicate, List·getD-map}
 use lib.Seq.{ext-getD}
 use lib.IntN.{ℤ, pos, natAbs}
 use borrow.Author.Tests.{eqb-true, not-false}
@@ -14,13 +14,13 @@ use Rattle.whole.specs.Order.{zarith, Abs, abs-parts}
 use Rattle.circuit.specs.Record.{rowIn, partAt, isLeaf, isInput, rowLimit}
 use Rattle.circuit.specs.Curve.{waveLimit}
 use Rattle.circuit.specs.Numbers.{done, judge, passes}
-use Rattle.circuit.specs.SetUp.{preparedRows, setUpReport, setUpRows}
+use Rattle.circuit.specs.SetUp.{nothing, preparedRows, setUpReport, setUpRows}
 use Rattle.circuit.specs.Sample.{rounded, sends, partSends, sent, storedAt}
+use Rattle.circuit.specs.Promises.{ratiosOf}
 use Rattle.circuit.specs.Run.{freshWaves, soundWave, storedWavesRule, Charged, chargedRules}
 use Rattle.circuit.specs.declared.Element.the-variants.{Resistor, Capacitor, Inductor, Input, Steady}
 use Rattle.circuit.specs.declared.Part.{Part}
 use Rattle.circuit.specs.declared.Part.the-variants.{Blank, Leaf, Adaptor}
-use Rattle.circuit.specs.declared.Prepared.{Prepared}
 use Rattle.circuit.specs.declared.Row.{Row}
 use Rattle.circuit.specs.declared.Record.{Record}
 use Rattle.laws.specs.Accepted.{Sized}
@@ -41,13 +41,20 @@ unfolding setUpRows
 kept-rows r e = rw e
 
 -- a circuit with its waves that 4 to 12 do not refuse
-pub playable : (k : Charged) (rows : List Prepared) → Sized (k .circuit) → rows ≡ setUpRows (k .circuit) → judge chargedRules k .number ≡ 0
-    → Playable (k .circuit) rows (k .waves)
-playable k rows sized e z =
+pub playable : (k : Charged) (ratios : List ℕ) → Sized (k .circuit) → ratios ≡ ratiosOf (setUpRows (k .circuit)) → judge chargedRules k .number ≡ 0
+    → Playable (k .circuit) ratios (k .waves)
+playable k ratios sized e z =
     let h = zero-cleared k z in
-    record { ready = record { sized = sized; setUp = h .setUp; prepared = e ∙ kept-rows (k .circuit) (h .setUp) }; waves = h .waves }
+    record {
+      ready = record {
+        sized = sized;
+        setUp = h .setUp;
+        prepared = λ j l. rw (e, kept-rows (k .circuit) (h .setUp)) (List·getD-map (λ q. q .ratio) (preparedRows (k .circuit)) j nothing);
+      };
+      waves = h .waves;
+    }
 
-pub cleared : {r : Record} {rows : List Prepared} {ws : List ℤ} → Playable r rows ws → Cleared (record { circuit = r; waves = ws })
+pub cleared : {r : Record} {ratios : List ℕ} {ws : List ℤ} → Playable r ratios ws → Cleared (record { circuit = r; waves = ws })
 cleared p = record { setUp = p .ready .setUp; waves = p .waves }
 
 pub zeros-at : (n j : ℕ) → storedAt (replicate n (pos 0)) j ≡ pos 0

@@ -7,7 +7,6 @@ use mathlib.Core.List.{List}
 use lib.ListN.{length, getD, set, length-set}
 use Rattle.circuit.specs.Record.{rowLimit, rowIn, partAt}
 use Rattle.circuit.specs.declared.Part.{Part}
-use Rattle.circuit.specs.declared.Prepared.{Prepared}
 use Rattle.circuit.specs.declared.Row.{Row}
 use Rattle.circuit.specs.declared.Record.{Record}
 use Rattle.engine.specs.Plan.{slotOf, Layable}
@@ -22,7 +21,7 @@ pub record Own (slots : List ℕ) (count : ℕ) : Type 0 where
   pub low : (j : ℕ) → j < count → getD slots j 0 < rowLimit
   pub own : (i j : ℕ) → i < count → j < count → getD slots i 0 ≡ getD slots j 0 → i ≡ j
 
-pub laid-own : {r : Record} {prepared : List Prepared} {slots : List ℕ} {count : ℕ} → r .count ≡ count → Layable r prepared slots → Own slots count
+pub laid-own : {r : Record} {prepared slots : List ℕ} {count : ℕ} → r .count ≡ count → Layable r prepared slots → Own slots count
 laid-own {r} {slots = slots} e h =
     let s = h .slotted in
     subst (Own slots) e record {
@@ -53,7 +52,7 @@ module _ {A : Type 0} {d : A} {slots : List ℕ} {f : ℕ → A} {l : List A} wh
 
 -- what every circuit with these rows and slots then has
 pub placed-all : {A : Type 0} {d : A} {slots : List ℕ} {rows : List Row} {count : ℕ} {l : List A} (f : ℕ → Part → A)
-    → Placed d slots (λ j. f j (rowIn rows j .part)) count l → (r : Record) (prepared : List Prepared) → r .rows ≡ rows → r .count ≡ count
+    → Placed d slots (λ j. f j (rowIn rows j .part)) count l → (r : Record) (prepared : List ℕ) → r .rows ≡ rows → r .count ≡ count
     → Layable r prepared slots → (j : ℕ) → j < count → getD l (slotOf r j) d ≡ f j (partAt r j)
 placed-all {d = d} {l = l} f p r prepared e n h j m =
     ap (λ s. getD l s d) (sym (h .slot j (omega arith))) ∙ p .at j m ∙ ap (λ (rows : List Row). f j (rowIn rows j .part)) (sym e)

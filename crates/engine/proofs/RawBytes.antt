@@ -11,7 +11,7 @@ use mir.Syntax.{w32}
 use mir.Val.{ofZ, SFits}
 use Rattle.whole.specs.Integers.{at, _⊞_}
 use Rattle.whole.specs.Order.{zarith}
-use Rattle.circuit.specs.File.{bytes, numberAt}
+use Rattle.circuit.specs.File.{bytes, numberAt, numberOf}
 use Rattle.circuit.specs.Take.{sampleLength, outputLength, signed, sampleAt, samplesOf}
 use Rattle.laws.proofs.Counting.{getD-table}
 use Rattle.laws.proofs.Bytes.{length-samplesOf}
@@ -35,6 +35,12 @@ module _ (s t : List ℕ) where
   -- and a sample that stands in it
   pub sample-after : (k i : ℕ) → length s + k ≡ sampleLength * i → signed (numberAt sampleLength k t % 2 ^ 24) ≡ sampleAt i (s ++ t)
   sample-after k i e = rw (← e, drop-append-add s t k)
+
+  -- one of which each byte is read from both together
+  pub sample-across : (i : ℕ) → sampleLength * i + sampleLength ≤ length s + length t → {a b c : ℕ} → a ≡ getD (s ++ t) (sampleLength * i) 0
+      → b ≡ getD (s ++ t) (sampleLength * i + 1) 0 → c ≡ getD (s ++ t) (sampleLength * i + 2) 0
+      → signed (numberOf (a ∷ b ∷ c ∷ []) % 2 ^ 24) ≡ sampleAt i (s ++ t)
+  sample-across i l f g h = rw (f, g, h, three-from (s ++ t) (sampleLength * i) (rw length-append (omega arith)))
 
 -- ---- the samples that are whole and that there is room for
 

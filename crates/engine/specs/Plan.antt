@@ -6,7 +6,6 @@ use mathlib.Core.List.{List}
 use lib.Dec.{eqb}
 use lib.IntN.{ℤ, pos, negsuc}
 use lib.ListN.{length, getD}
-use lib.Ieee.{nan}
 use Rattle.circuit.specs.Counting.{total, one}
 use Rattle.circuit.specs.Record.{top, rowIn, partAt, adaptorsOf}
 use Rattle.circuit.specs.SetUp.{ratioAt}
@@ -18,7 +17,6 @@ use Rattle.circuit.specs.declared.Join.the-variants.{Series, Parallel}
 use Rattle.circuit.specs.declared.Adaptor.{Adaptor as Joint}
 use Rattle.circuit.specs.declared.Part.{Part}
 use Rattle.circuit.specs.declared.Part.the-variants.{Blank, Leaf, Adaptor}
-use Rattle.circuit.specs.declared.Prepared.{Prepared}
 use Rattle.circuit.specs.declared.Row.{Row}
 use Rattle.circuit.specs.declared.Record.{Record}
 use Rattle.laws.specs.Accepted.{adaptorLimit, Child, Accepted}
@@ -157,19 +155,16 @@ planOf shape joints turns lines = record { shape = shape; joints = joints; turns
 
 -- ---- what the plan is laid out from
 
-abbrev pub ratioIn : List Prepared → ℕ → ℕ
-ratioIn rows j = getD rows j (record { resistance = nan; ratio = 0 }) .ratio
-
--- the rows' slots, and the prepared ratios of an accepted circuit
-pub record Layable (r : Record) (prepared : List Prepared) (slots : List ℕ) : Type 0 where
+-- the rows' slots, and their ratios after set-up, of an accepted circuit
+pub record Layable (r : Record) (prepared slots : List ℕ) : Type 0 where
   pub accepted : Accepted r
   pub slotted : Slotted r
   pub slot : (j : ℕ) → j < r .count → getD slots j 0 ≡ slotOf r j
-  pub ratio : (j : ℕ) → j < r .count → ratioIn prepared j ≡ ratioAt r j
+  pub ratio : (j : ℕ) → j < r .count → getD prepared j 0 ≡ ratioAt r j
 
 -- a circuit of so many rows, these, which stand in these slots
 pub record Seated (rows : List Row) (count : ℕ) (slots : List ℕ) (r : Record) : Type 0 where
-  pub prepared : List Prepared
+  pub prepared : List ℕ
   pub all : r .rows ≡ rows
   pub many : r .count ≡ count
   pub layable : Layable r prepared slots

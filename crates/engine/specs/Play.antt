@@ -1,11 +1,11 @@
 -- The samples of a run over a plan: what they come to, for every circuit that the plan is of.
+use Prim.Native.Nat.{ℕ}
 use mathlib.Core.Path.{_≡_}
 use mathlib.Core.List.{List, _++_}
 use lib.IntN.{ℤ}
 use lib.ListN.{length, drop}
 use Rattle.circuit.specs.Numbers.{handed, passes}
 use Rattle.circuit.specs.Run.{Played, play, storedWavesRule, reportAfter}
-use Rattle.circuit.specs.declared.Prepared.{Prepared}
 use Rattle.circuit.specs.declared.Record.{Record}
 use Rattle.engine.specs.declared.play.Stop.{Stop}
 use Rattle.engine.specs.Plan.{Plan}
@@ -27,7 +27,7 @@ module _ {A : Type 0} (shown : List ℤ → List A) where
   pub record Plays (p : Plan) (ups xs : List ℤ) (before : List A) (s : Stop) (after : List ℤ) (out : List A) : Type 0 where
     pub plays : (r : Record) (ws : List ℤ) → Fixed p r → Loaded r ws ups → Ends r (play r ws xs) before s after out
 
--- rows after set-up and stored waves, of a circuit that 4 to 12 do not refuse
-pub record Playable (r : Record) (rows : List Prepared) (ws : List ℤ) : Type 0 where
-  pub ready : Ready r rows
+-- the rows' ratios after set-up and the stored waves, of a circuit that 4 to 12 do not refuse
+pub record Playable (r : Record) (ratios : List ℕ) (ws : List ℤ) : Type 0 where
+  pub ready : Ready r ratios
   pub waves : storedWavesRule r ws ≡ passes

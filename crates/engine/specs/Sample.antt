@@ -5,16 +5,15 @@ use mathlib.Core.Logic.{_⊎_}
 use mathlib.Core.Bool.{Bool, true, false, not, _||_}
 use mathlib.Core.List.{List}
 use lib.IntN.{ℤ, pos, negsuc, _+ℤ_, negℤ}
-use lib.ListN.{length}
+use lib.ListN.{length, getD}
 use Rattle.whole.specs.Order.{Abs}
 use Rattle.circuit.specs.Counting.{within, some}
 use Rattle.circuit.specs.Numbers.{done}
 use Rattle.circuit.specs.Record.{partAt, isLeaf, isInput, rowLimit, adaptorsOf}
 use Rattle.circuit.specs.Curve.{waveLimit}
-use Rattle.circuit.specs.SetUp.{preparedRows, setUpReport}
+use Rattle.circuit.specs.SetUp.{nothing, preparedRows, setUpReport}
 use Rattle.circuit.specs.Sample.{rounded, sent, sampled, refused, finished, storedAt}
 use Rattle.circuit.specs.Run.{soundWave}
-use Rattle.circuit.specs.declared.Prepared.{Prepared}
 use Rattle.circuit.specs.declared.Record.{Record}
 use Rattle.laws.specs.Accepted.{Sized, Accepted}
 use Rattle.engine.specs.declared.plan.Shape.{Shape}
@@ -96,11 +95,11 @@ pub record Fixed (p : Plan) (r : Record) : Type 0 where
   pub turn : (j : ℕ) → j < r .count → storedAt (p .turns) (slotOf r j) ≡ turnOf (partAt r j)
   pub drawn : Drawing r (p .lines)
 
--- rows after set-up, of a record that it does not refuse
-pub record Ready (r : Record) (rows : List Prepared) : Type 0 where
+-- the rows' ratios after set-up, of a record that it does not refuse
+pub record Ready (r : Record) (ratios : List ℕ) : Type 0 where
   pub sized : Sized r
   pub setUp : setUpReport r ≡ done
-  pub prepared : rows ≡ preparedRows r
+  pub prepared : (j : ℕ) → j < rowLimit → getD ratios j 0 ≡ getD (preparedRows r) j nothing .ratio
 
 -- the stored waves ws pass rule 12, and every leaf but the input has in its slot what it sends next
 pub record Loaded (r : Record) (ws ups : List ℤ) : Type 0 where

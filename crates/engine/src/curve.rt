@@ -1,14 +1,16 @@
 // The diode's answer to a wave. The curve is laid out once for a run as lines: line n holds left of its edge, and at a wave it is
-// (rise·wave + base) / (span + 1), rounded toward zero. Line 0 is left of the first column, and the edges after the columns are past every
+// (rise·wave + base) / (span + 1), rounded toward zero. Line 0 is left of the first column, and the edge after the last column is past every
 // wave. All numbers are whole microvolts; a column's and a wave's keep 2^26, so no product reaches 2^55.
 use circuit::COLUMNS;
 use circuit::Column;
 use circuit::CurveKind;
 use circuit::WAVE_LIMIT;
 use circuit::Wave;
+use sheet::Coordinates;
 ghost use mathlib.Core.Path.{_≡_};
-ghost use Prim.Native.Nat.{_≤_};
+ghost use Prim.Native.Nat.{_≤_, _<_};
 ghost use lib.IntN.{_-ℤ_};
+ghost use lib.ListN.{length};
 ghost use Rattle.whole.specs.Order.{Abs};
 ghost use Rattle.whole.specs.Fraction.{whole};
 ghost use Rattle.circuit.specs.Record.{columnLimit};
@@ -16,7 +18,8 @@ ghost use Rattle.circuit.specs.Curve as Curve;
 ghost use Rattle.circuit.specs.Curve.{waveLimit, passed, towardZero, reflected};
 ghost use Rattle.circuit.specs.declared.Record.{Record};
 ghost use Rattle.laws.specs.Accepted.{Drawn};
-ghost use Rattle.engine.specs.Curve.{lineBy, Sloped, Drawing, Mirrors};
+ghost use Rattle.sheet.specs.Sheet.{columnsIn};
+ghost use Rattle.engine.specs.Curve.{lineBy, Sloped, lineLimit, columnIn, Drawing, Mirrors};
 
 // One line more than there are columns, and one more to make them a power of two.
 pub(crate) const LINES: usize = COLUMNS + 2;
@@ -48,23 +51,32 @@ fn between(o: Column, n: Column) -> Line
     through(x, o, (n.y as i64) - (o.y as i64), x - (o.x as i64))
 }
 
-// The line past the last column is laid first, in every place: no search goes past it.
-pub(crate) fn lines_of(columns: [Column; COLUMNS], width: usize) -> [Line; LINES]
-    requires { ⌜ ((r : Record) × (r .columns ≡ columns) × (r .width ≡ width) × Drawn r × (width ≤ columnLimit)) ⌝ }
-    ensures { λ lines. ⌜ ((r : Record) → r .columns ≡ columns → r .width ≡ width → Drawn r → width ≤ columnLimit → Drawing r lines) ⌝ }
+fn column(xs: &Coordinates, ys: &Coordinates, i: usize) -> Column
+    requires { ⌜ i < columnLimit ⌝ }
+    ensures { λ c. ⌜ c ≡ columnIn (columnsIn (now (xs .entry)) (now (ys .entry))) i ⌝ }
 {
-    let last = columns[width - 1];
-    let mut lines = [through(BEYOND, last, -1, 1); LINES];
-    let first = columns[0];
+    Column { x: xs[i], y: ys[i] }
+}
+
+// No search goes past the line after the last column: what stands behind it is never read.
+pub(crate) fn lay_lines(width: usize, xs: &Coordinates, ys: &Coordinates, lines: &mut [Line; LINES])
+    requires { ⌜ ((r : Record) × (r .columns ≡ columnsIn (now xs) (now ys)) × (r .width ≡ width) × Drawn r × (width ≤ columnLimit))
+        × (length (now lines) ≡ lineLimit) ⌝ }
+    ensures { λ u. ⌜ ((r : Record) → r .columns ≡ columnsIn (now (xs .entry)) (now (ys .entry)) → r .width ≡ width → Drawn r → width ≤ columnLimit
+        → Drawing r (now (lines .exit))) ⌝ }
+{
+    let last = column(xs, ys, width - 1);
+    let l = through(BEYOND, last, -1, 1);
+    lines[width] = l;
+    let first = column(xs, ys, 0);
     let l = through(first.x as i64, first, 1, 1);
     lines[0] = l;
     for i in 1..width {
-        let before = columns[i - 1];
-        let here = columns[i];
+        let before = column(xs, ys, i - 1);
+        let here = column(xs, ys, i);
         let l = between(before, here);
         lines[i] = l;
     }
-    lines
 }
 
 // Waves below this one are answered by the opposite of the answer to their opposite: of a pair all that are negative, of a single none.

@@ -1,29 +1,34 @@
 // What a run lays out of a record before its first sample. Waves stand in slots: the reactive leaves from slot 0 on, then the other leaves, the
 // input at FLOOR, and above it the adaptors in the order of their rows, which is that of the sweep. What a sweep reads of adaptor k stands at k,
 // and its wave at FLOOR + 1 + k. The last adaptor is the top; where there is none the input is.
+use crate::curve::LINES;
+use crate::curve::Line;
+use crate::curve::lay_lines;
 use crate::curve::mirror;
 use circuit::Element;
 use circuit::Join;
 use circuit::Part;
-use circuit::Prepared;
 use circuit::ROWS;
-use circuit::Record;
-use circuit::Row;
 use circuit::TOP;
+use sheet::Cells;
+use sheet::Coordinates;
+use sheet::Heading;
+use sheet::Microvolts;
+use sheet::Values;
+use sheet::part_in;
 ghost use mathlib.Core.Path.{_≡_};
 ghost use mathlib.Core.Bool.{cond};
 ghost use mathlib.Core.List.{List};
 ghost use Prim.Native.Nat.{ℕ, _-_, _≤_, _<_};
 ghost use lib.Dec.{eqb};
-ghost use lib.IntN.{ℤ};
-ghost use lib.ListN.{getD};
+ghost use lib.ListN.{length, getD};
 ghost use Rattle.circuit.specs.Record.{rowLimit, top, partAt, adaptorsOf};
 ghost use Rattle.circuit.specs.Sample.{storedAt};
 ghost use Rattle.circuit.specs.declared.Part.the-variants.{Leaf};
-ghost use Rattle.circuit.specs.declared.Prepared.{Prepared};
 ghost use Rattle.circuit.specs.declared.Row.{Row};
 ghost use Rattle.circuit.specs.declared.Record.{Record};
-ghost use Rattle.engine.specs.Curve.{Drawing, Mirrors};
+ghost use Rattle.sheet.specs.Sheet.{headingOf, rowsIn, columnsIn, recordIn};
+ghost use Rattle.engine.specs.Curve.{lineLimit, Mirrors};
 ghost use Rattle.engine.specs.Plan.{roleOf, Roled, rank, slotIn, slotOf};
 ghost use Rattle.engine.specs.Plan.{joinOf, jointsOf, Staged, turnOf, tapRow, planOf, Layable, Seated, Roomy};
 ghost use Rattle.engine.specs.Sample.{Ready, Fixed};
@@ -97,14 +102,13 @@ fn role_of(p: Part) -> u8
 }
 
 // The rows' roles.
-fn roles_of(rows: [Row; ROWS], count: usize) -> [u8; ROWS]
+fn roles_of(count: usize, cells: &Cells, microvolts: &Microvolts, values: &Values) -> [u8; ROWS]
     requires { ⌜ count ≤ rowLimit ⌝ }
-    ensures { λ roles. ⌜ Roled rows count roles ⌝ }
+    ensures { λ roles. ⌜ Roled (rowsIn (now (cells .entry)) (now (microvolts .entry)) (now (values .entry))) count roles ⌝ }
 {
     let mut roles = [0u8; ROWS];
     for i in 0..count {
-        let row = rows[i];
-        let part = row.part;
+        let part = part_in(cells[i], microvolts[i], values[i]);
         roles[i] = role_of(part);
     }
     roles
@@ -146,28 +150,30 @@ fn slots_of(roles: &[u8; ROWS], count: usize, q: usize) -> [u8; ROWS]
 
 // Enters each adaptor's kind, its children's slots and its ratio at its place.
 fn lay_joints(
-    rows: [Row; ROWS],
-    prepared: [Prepared; ROWS],
     count: usize,
+    cells: &Cells,
+    microvolts: &Microvolts,
+    values: &Values,
+    prepared: &[u32; ROWS],
     slots: &[u8; ROWS],
     joins: &mut [u8; JOINTS],
     firsts: &mut [u8; JOINTS],
     seconds: &mut [u8; JOINTS],
     ratios: &mut [i64; JOINTS],
 )
-    requires { ⌜ ((r : Record) × (r .rows ≡ rows) × (r .count ≡ count) × Layable r prepared (now slots))
+    requires { ⌜ ((r : Record) × (r .rows ≡ rowsIn (now cells) (now microvolts) (now values)) × (r .count ≡ count)
+        × Layable r (now prepared) (now slots))
         × Roomy (jointsOf (now joins) (now firsts) (now seconds) (now ratios)) ⌝ }
-    ensures { λ u. ⌜ ((r : Record) → r .rows ≡ rows → r .count ≡ count → Layable r prepared (now (slots .entry))
+    ensures { λ u. ⌜ ((r : Record) → r .rows ≡ rowsIn (now (cells .entry)) (now (microvolts .entry)) (now (values .entry)) → r .count ≡ count
+        → Layable r (now (prepared .entry)) (now (slots .entry))
         → Staged r (jointsOf (now (joins .exit)) (now (firsts .exit)) (now (seconds .exit)) (now (ratios .exit)))) ⌝ }
 {
     for i in 0..count {
-        let row = rows[i];
-        let part = row.part;
+        let part = part_in(cells[i], microvolts[i], values[i]);
         match part {
             Part::Blank => {}
             Part::Leaf(_) => {}
             Part::Adaptor(a) => {
-                let own = prepared[i];
                 let join = a.join;
                 let first = wide(a.first);
                 let second = wide(a.second);
@@ -175,7 +181,7 @@ fn lay_joints(
                 joins[k] = code_of(join);
                 firsts[k] = slots[first];
                 seconds[k] = slots[second];
-                ratios[k] = own.ratio as i64;
+                ratios[k] = prepared[i] as i64;
             }
         }
     }
@@ -205,15 +211,20 @@ fn turn(p: Part) -> i64
 }
 
 // The parts' turns, each in its slot.
-fn turns_of(rows: [Row; ROWS], count: usize, slots: &[u8; ROWS]) -> [i64; ROWS]
-    requires { ⌜ ((r : Record) × Seated rows count (now slots) r) ⌝ }
-    ensures { λ t. ⌜ ((r : Record) → Seated rows count (now (slots .entry)) r
+fn turns_of(
+    count: usize,
+    cells: &Cells,
+    microvolts: &Microvolts,
+    values: &Values,
+    slots: &[u8; ROWS],
+) -> [i64; ROWS]
+    requires { ⌜ ((r : Record) × Seated (rowsIn (now cells) (now microvolts) (now values)) count (now slots) r) ⌝ }
+    ensures { λ t. ⌜ ((r : Record) → Seated (rowsIn (now (cells .entry)) (now (microvolts .entry)) (now (values .entry))) count (now (slots .entry)) r
         → (j : ℕ) → j < count → storedAt t (slotOf r j) ≡ turnOf (partAt r j)) ⌝ }
 {
     let mut turns = [0i64; ROWS];
     for i in 0..count {
-        let row = rows[i];
-        let part = row.part;
+        let part = part_in(cells[i], microvolts[i], values[i]);
         let s = wide(slots[i]);
         turns[s] = turn(part);
     }
@@ -227,14 +238,14 @@ fn tap_row(tap: u8, last: usize) -> usize
     if tap == TOP { last } else { wide(tap) }
 }
 
-fn shape_of(r: Record, q: usize, slots: &[u8; ROWS]) -> Shape
-    requires { ⌜ ((prepared : List Prepared) × Layable r prepared (now slots)) ⌝ }
-    ensures { λ s. ⌜ (s .adaptors ≡ adaptorsOf r) × (s .reactive ≡ q) × (s .tap ≡ slotOf r (tapRow r))
-        × Mirrors (r .kind) (s .mirror) ⌝ }
+fn shape_of(h: Heading, q: usize, slots: &[u8; ROWS]) -> Shape
+    requires { ⌜ ((r : Record) × (prepared : List ℕ) × (h ≡ headingOf r) × Layable r prepared (now slots)) ⌝ }
+    ensures { λ s. ⌜ ((r : Record) (prepared : List ℕ) → h ≡ headingOf r → Layable r prepared (now (slots .entry))
+        → (s .adaptors ≡ adaptorsOf r) × (s .reactive ≡ q) × (s .tap ≡ slotOf r (tapRow r)) × Mirrors (r .kind) (s .mirror)) ⌝ }
 {
-    let count = wide(r.count);
-    let kind = r.kind;
-    let read = tap_row(r.tap, count - 1);
+    let count = wide(h.count);
+    let kind = h.kind;
+    let read = tap_row(h.tap, count - 1);
     Shape {
         adaptors: count / 2,
         reactive: q,
@@ -243,38 +254,51 @@ fn shape_of(r: Record, q: usize, slots: &[u8; ROWS]) -> Shape
     }
 }
 
-// Lays out all that the samples of a run read but the curve's lines, and the rows' slots; `prepared` are the record's rows after set-up.
+// Lays out all that the samples of a run read, and the rows' slots; `prepared` are the rows' ratios after set-up.
 pub(crate) fn lay_out(
-    r: Record,
-    prepared: [Prepared; ROWS],
+    h: Heading,
+    cells: &Cells,
+    microvolts: &Microvolts,
+    values: &Values,
+    xs: &Coordinates,
+    ys: &Coordinates,
+    prepared: &[u32; ROWS],
     slots: &mut [u8; ROWS],
     joins: &mut [u8; JOINTS],
     firsts: &mut [u8; JOINTS],
     seconds: &mut [u8; JOINTS],
     ratios: &mut [i64; JOINTS],
     turns: &mut [i64; ROWS],
+    lines: &mut [Line; LINES],
 ) -> Shape
-    requires { ⌜ Ready r prepared × Roomy (jointsOf (now joins) (now firsts) (now seconds) (now ratios)) ⌝ }
-    ensures fixed { λ shape. ⌜ ((lines : List (List ℤ)) → Drawing r lines → Fixed
-        (planOf shape (jointsOf (now (joins .exit)) (now (firsts .exit)) (now (seconds .exit)) (now (ratios .exit))) (now (turns .exit)) lines) r) ⌝ }
-    ensures slots { λ shape. ⌜ Layable r prepared (now (slots .exit)) ⌝ }
+    requires { ⌜ Ready (recordIn h (rowsIn (now cells) (now microvolts) (now values)) (columnsIn (now xs) (now ys))) (now prepared)
+        × Roomy (jointsOf (now joins) (now firsts) (now seconds) (now ratios)) × (length (now lines) ≡ lineLimit) ⌝ }
+    ensures fixed { λ shape. ⌜ Fixed
+        (planOf shape (jointsOf (now (joins .exit)) (now (firsts .exit)) (now (seconds .exit)) (now (ratios .exit))) (now (turns .exit))
+        (now (lines .exit)))
+        (recordIn h (rowsIn (now (cells .entry)) (now (microvolts .entry)) (now (values .entry))) (columnsIn (now (xs .entry)) (now (ys .entry)))) ⌝ }
+    ensures slots { λ shape. ⌜ Layable (recordIn h (rowsIn (now (cells .entry)) (now (microvolts .entry)) (now (values .entry)))
+        (columnsIn (now (xs .entry)) (now (ys .entry))))
+        (now (prepared .entry)) (now (slots .exit)) ⌝ }
 {
-    let rows = r.rows;
-    let count = wide(r.count);
-    let roles = roles_of(rows, count);
+    let count = wide(h.count);
+    let roles = roles_of(count, cells, microvolts, values);
     let q = reactive_leaves(&roles, count);
     let given = slots_of(&roles, count, q);
     lay_joints(
-        rows,
-        prepared,
         count,
+        cells,
+        microvolts,
+        values,
+        prepared,
         &given,
         joins,
         firsts,
         seconds,
         ratios,
     );
-    *turns = turns_of(rows, count, &given);
+    *turns = turns_of(count, cells, microvolts, values, &given);
+    lay_lines(wide(h.width), xs, ys, lines);
     *slots = given;
-    shape_of(r, q, &given)
+    shape_of(h, q, &given)
 }

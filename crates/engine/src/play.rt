@@ -1,7 +1,6 @@
 // The samples of a run, in order: the plan is laid out once, and each sample starts from the waves that the one before it stored.
 use crate::curve::LINES;
 use crate::curve::Line;
-use crate::curve::lines_of;
 use crate::leaf::part_sends;
 use crate::leaf::part_taken;
 use crate::plan::JOINTS;
@@ -12,13 +11,16 @@ use crate::sample::Outcome;
 use crate::sample::sample;
 use circuit::Answer;
 use circuit::Doubled;
-use circuit::Prepared;
 use circuit::Progress;
 use circuit::ROWS;
-use circuit::Record;
-use circuit::Row;
 use circuit::State;
 use circuit::Wave;
+use sheet::Cells;
+use sheet::Coordinates;
+use sheet::Heading;
+use sheet::Microvolts;
+use sheet::Values;
+use sheet::part_in;
 ghost use mathlib.Core.Path.{_≡_};
 ghost use mathlib.Core.List.{List};
 ghost use Prim.Native.Nat.{_<_};
@@ -28,20 +30,27 @@ ghost use Rattle.circuit.specs.Numbers.{passes};
 ghost use Rattle.circuit.specs.Run.{freshWaves, storedWavesRule, call};
 ghost use Rattle.circuit.specs.Promises.{Runs};
 ghost use Rattle.circuit.specs.declared.Record.{Record};
+ghost use Rattle.sheet.specs.Sheet.{rowsIn, columnsIn, recordIn};
 ghost use Rattle.engine.specs.Plan.{jointsOf, planOf, Seated};
 ghost use Rattle.engine.specs.Sample.{Loaded, LaidOut};
 ghost use Rattle.engine.specs.Play.{Plays, Playable};
 
 // What each row sends from its stored wave, in its slot; the input's slot waits for a sample.
-pub(crate) fn load(rows: [Row; ROWS], state: State, count: usize, slots: &[u8; ROWS]) -> [i64; ROWS]
-    requires { ⌜ ((r : Record) × Seated rows count (now slots) r) ⌝ }
-    ensures { λ up. ⌜ ((r : Record) → Seated rows count (now (slots .entry)) r → storedWavesRule r (state .waves) ≡ passes
+pub(crate) fn load(
+    count: usize,
+    cells: &Cells,
+    microvolts: &Microvolts,
+    values: &Values,
+    slots: &[u8; ROWS],
+    state: State,
+) -> [i64; ROWS]
+    requires { ⌜ ((r : Record) × Seated (rowsIn (now cells) (now microvolts) (now values)) count (now slots) r) ⌝ }
+    ensures { λ up. ⌜ ((r : Record) → Seated (rowsIn (now (cells .entry)) (now (microvolts .entry)) (now (values .entry))) count (now (slots .entry)) r → storedWavesRule r (state .waves) ≡ passes
         → Loaded r (state .waves) up) ⌝ }
 {
     let mut up = [0i64; ROWS];
     for i in 0..count {
-        let row = rows[i];
-        let part = row.part;
+        let part = part_in(cells[i], microvolts[i], values[i]);
         let sent = part_sends(part, state.waves[i]);
         let next = sent.0;
         let s = wide(slots[i]);
@@ -51,16 +60,23 @@ pub(crate) fn load(rows: [Row; ROWS], state: State, count: usize, slots: &[u8; R
 }
 
 // The stored waves, out of what the rows send next.
-pub(crate) fn unload(rows: [Row; ROWS], count: usize, slots: &[u8; ROWS], up: [i64; ROWS]) -> State
-    requires { ⌜ ((r : Record) × (ws : List ℤ) × Seated rows count (now slots) r × Loaded r ws up) ⌝ }
-    ensures { λ s. ⌜ ((r : Record) (ws : List ℤ) → Seated rows count (now (slots .entry)) r → Loaded r ws up → s .waves ≡ ws) ⌝ }
+pub(crate) fn unload(
+    count: usize,
+    cells: &Cells,
+    microvolts: &Microvolts,
+    values: &Values,
+    slots: &[u8; ROWS],
+    up: [i64; ROWS],
+) -> State
+    requires { ⌜ ((r : Record) × (ws : List ℤ) × Seated (rowsIn (now cells) (now microvolts) (now values)) count (now slots) r × Loaded r ws up) ⌝ }
+    ensures { λ s. ⌜ ((r : Record) (ws : List ℤ) → Seated (rowsIn (now (cells .entry)) (now (microvolts .entry)) (now (values .entry))) count (now (slots .entry)) r → Loaded r ws up
+        → s .waves ≡ ws) ⌝ }
 {
     let mut state = State {
         waves: [0i32; ROWS],
     };
     for i in 0..count {
-        let row = rows[i];
-        let part = row.part;
+        let part = part_in(cells[i], microvolts[i], values[i]);
         let s = wide(slots[i]);
         let taken = part_taken(part, Wave(up[s]));
         let stored = taken.0 as i32;
@@ -142,27 +158,39 @@ fn samples(
     }
 }
 
-// A call that 4 to 13 do not refuse; `prepared` are the record's rows after set-up.
+// A call that 4 to 13 do not refuse; `prepared` are the rows' ratios after set-up.
 pub(crate) fn play(
-    r: Record,
-    prepared: [Prepared; ROWS],
+    h: Heading,
+    cells: &Cells,
+    microvolts: &Microvolts,
+    values: &Values,
+    xs: &Coordinates,
+    ys: &Coordinates,
+    prepared: &[u32; ROWS],
     state: State,
     input: &[i32],
     output: &mut [i32],
 ) -> Progress
-    requires { ⌜ Playable r prepared (state .waves) × (length (now input) ≡ length (now output)) ⌝ }
-    ensures { λ p. ⌜ Runs (call r (state .waves) (now (input .entry)) (now (output .entry))) p (now (output .exit)) ⌝ }
+    requires { ⌜ Playable (recordIn h (rowsIn (now cells) (now microvolts) (now values)) (columnsIn (now xs) (now ys))) (now prepared)
+        (state .waves) × (length (now input) ≡ length (now output)) ⌝ }
+    ensures { λ p. ⌜ Runs (call (recordIn h (rowsIn (now (cells .entry)) (now (microvolts .entry)) (now (values .entry)))
+        (columnsIn (now (xs .entry)) (now (ys .entry)))) (state .waves) (now (input .entry)) (now (output .entry))) p (now (output .exit)) ⌝ }
 {
-    let rows = r.rows;
-    let count = wide(r.count);
+    let count = wide(h.count);
     let mut slots = [0u8; ROWS];
     let mut joins = [0u8; JOINTS];
     let mut firsts = [0u8; JOINTS];
     let mut seconds = [0u8; JOINTS];
     let mut ratios = [0i64; JOINTS];
     let mut turns = [0i64; ROWS];
+    let mut lines = [[0i64; 4]; LINES];
     let shape = lay_out(
-        r,
+        h,
+        cells,
+        microvolts,
+        values,
+        xs,
+        ys,
         prepared,
         &mut slots,
         &mut joins,
@@ -170,10 +198,9 @@ pub(crate) fn play(
         &mut seconds,
         &mut ratios,
         &mut turns,
+        &mut lines,
     );
-    let columns = r.columns;
-    let lines = lines_of(columns, wide(r.width));
-    let mut up = load(rows, state, count, &slots);
+    let mut up = load(count, cells, microvolts, values, &slots, state);
     let stop = samples(
         shape,
         &joins,
@@ -187,7 +214,7 @@ pub(crate) fn play(
         output,
     );
     let answer = stop.answer;
-    let after = unload(rows, count, &slots, up);
+    let after = unload(count, cells, microvolts, values, &slots, up);
     Progress {
         answer,
         done: stop.done,

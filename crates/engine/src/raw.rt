@@ -3,7 +3,6 @@ use crate::bytes::put;
 use crate::bytes::sample_at;
 use crate::curve::LINES;
 use crate::curve::Line;
-use crate::curve::lines_of;
 use crate::plan::JOINTS;
 use crate::plan::Shape;
 use crate::plan::lay_out;
@@ -15,17 +14,21 @@ use crate::sample::Outcome;
 use crate::sample::sample;
 use circuit::Answer;
 use circuit::OUTPUT_LENGTH;
-use circuit::Prepared;
 use circuit::Progress;
 use circuit::ROWS;
-use circuit::Record;
 use circuit::SAMPLE_LENGTH;
 use circuit::State;
+use sheet::Cells;
+use sheet::Coordinates;
+use sheet::Heading;
+use sheet::Microvolts;
+use sheet::Values;
 ghost use mathlib.Core.Path.{_≡_};
 ghost use Prim.Native.Nat.{_/_, min};
 ghost use mathlib.Core.List.{_++_};
 ghost use Rattle.circuit.specs.Run.{freshWaves};
 ghost use Rattle.circuit.specs.Take.{sampleLength, outputLength, outputBytes};
+ghost use Rattle.sheet.specs.Sheet.{rowsIn, columnsIn, recordIn};
 ghost use Rattle.engine.specs.Plan.{jointsOf, planOf};
 ghost use Rattle.engine.specs.Sample.{LaidOut};
 ghost use Rattle.engine.specs.Play.{Plays, Playable};
@@ -100,28 +103,41 @@ fn raw_samples(
     }
 }
 
-// A call that 4 to 12 do not refuse; `prepared` are the record's rows after set-up.
+// A call that 4 to 12 do not refuse; `prepared` are the rows' ratios after set-up.
 pub(crate) fn play_raw(
-    r: Record,
-    prepared: [Prepared; ROWS],
+    h: Heading,
+    cells: &Cells,
+    microvolts: &Microvolts,
+    values: &Values,
+    xs: &Coordinates,
+    ys: &Coordinates,
+    prepared: &[u32; ROWS],
     state: State,
     left: &[u8],
     more: &[u8],
     out: &mut [u8],
 ) -> Progress
-    requires { ⌜ Playable r prepared (state .waves) ⌝ }
-    ensures { λ p. ⌜ RunsRaw (rawCall r (state .waves) (now (left .entry) ++ now (more .entry)) (now (out .entry))) p (now (out .exit)) ⌝ }
+    requires { ⌜ Playable (recordIn h (rowsIn (now cells) (now microvolts) (now values)) (columnsIn (now xs) (now ys))) (now prepared)
+        (state .waves) ⌝ }
+    ensures { λ p. ⌜ RunsRaw (rawCall (recordIn h (rowsIn (now (cells .entry)) (now (microvolts .entry)) (now (values .entry)))
+        (columnsIn (now (xs .entry)) (now (ys .entry)))) (state .waves) (now (left .entry) ++ now (more .entry)) (now (out .entry))) p
+        (now (out .exit)) ⌝ }
 {
-    let rows = r.rows;
-    let count = wide(r.count);
+    let count = wide(h.count);
     let mut slots = [0u8; ROWS];
     let mut joins = [0u8; JOINTS];
     let mut firsts = [0u8; JOINTS];
     let mut seconds = [0u8; JOINTS];
     let mut ratios = [0i64; JOINTS];
     let mut turns = [0i64; ROWS];
+    let mut lines = [[0i64; 4]; LINES];
     let shape = lay_out(
-        r,
+        h,
+        cells,
+        microvolts,
+        values,
+        xs,
+        ys,
         prepared,
         &mut slots,
         &mut joins,
@@ -129,10 +145,9 @@ pub(crate) fn play_raw(
         &mut seconds,
         &mut ratios,
         &mut turns,
+        &mut lines,
     );
-    let columns = r.columns;
-    let lines = lines_of(columns, wide(r.width));
-    let mut up = load(rows, state, count, &slots);
+    let mut up = load(count, cells, microvolts, values, &slots, state);
     let stop = raw_samples(
         shape,
         &joins,
@@ -147,7 +162,7 @@ pub(crate) fn play_raw(
         out,
     );
     let answer = stop.answer;
-    let after = unload(rows, count, &slots, up);
+    let after = unload(count, cells, microvolts, values, &slots, up);
     Progress {
         answer,
         done: stop.done,

@@ -12,7 +12,6 @@ use Rattle.circuit.specs.File.{blockLength, bytes, zeros, rowFields, columnFiel
 use Rattle.circuit.specs.declared.Column.{Column}
 use Rattle.circuit.specs.declared.CurveKind.the-variants.{Unset}
 use Rattle.circuit.specs.declared.Record.{Record}
-use Rattle.circuit.specs.declared.Part.the-variants.{Blank}
 use Rattle.file.specs.Placing.{placed, headingLength}
 use Rattle.file.proofs.Digits.{length-bytes}
 use Rattle.file.proofs.Placed.{Entered, entered-more, Begun, begun-gap}
@@ -78,16 +77,3 @@ kind-unset (suc (suc (suc k))) n₁ n₂ = refl
 -- a part of fields that are read
 pub part-same : (k a b k′ a′ b′ : ℕ) (v v′ : ℤ) (x x′ : Float) → k ≡ k′ → a ≡ a′ → b ≡ b′ → v ≡ v′ → x ≡ x′ → partOf k a b v x ≡ partOf k′ a′ b′ v′ x′
 part-same k a b k′ a′ b′ v v′ x x′ e₁ e₂ e₃ e₄ e₅ = rw (e₁, e₂, e₃, e₄, e₅)
-
--- a number that is none of the kinds of a part is read as blank
-pub part-blank : (k first second : ℕ) (v : ℤ) (x : Float) → (k ≡ 1 → ⊥) → (k ≡ 2 → ⊥) → (k ≡ 3 → ⊥) → (k ≡ 4 → ⊥) → (k ≡ 5 → ⊥) → (k ≡ 6 → ⊥) → (k ≡ 7 → ⊥)
-    → partOf k first second v x ≡ Blank
-part-blank zero first second v x n₁ n₂ n₃ n₄ n₅ n₆ n₇ = refl
-part-blank (suc zero) first second v x n₁ n₂ n₃ n₄ n₅ n₆ n₇ = absurd (n₁ refl)
-part-blank (suc (suc zero)) first second v x n₁ n₂ n₃ n₄ n₅ n₆ n₇ = absurd (n₂ refl)
-part-blank (suc (suc (suc zero))) first second v x n₁ n₂ n₃ n₄ n₅ n₆ n₇ = absurd (n₃ refl)
-part-blank (suc (suc (suc (suc zero)))) first second v x n₁ n₂ n₃ n₄ n₅ n₆ n₇ = absurd (n₄ refl)
-part-blank (suc (suc (suc (suc (suc zero))))) first second v x n₁ n₂ n₃ n₄ n₅ n₆ n₇ = absurd (n₅ refl)
-part-blank (suc (suc (suc (suc (suc (suc zero)))))) first second v x n₁ n₂ n₃ n₄ n₅ n₆ n₇ = absurd (n₆ refl)
-part-blank (suc (suc (suc (suc (suc (suc (suc zero))))))) first second v x n₁ n₂ n₃ n₄ n₅ n₆ n₇ = absurd (n₇ refl)
-part-blank (suc (suc (suc (suc (suc (suc (suc (suc k)))))))) first second v x n₁ n₂ n₃ n₄ n₅ n₆ n₇ = refl

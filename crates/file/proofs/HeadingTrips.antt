@@ -16,7 +16,7 @@ use Rattle.file.specs.Held.{Bytes, Held}
 use Rattle.file.specs.Placing.{headingLength}
 use Rattle.file.proofs.Digits.{number-bytes, part-below, part-back}
 use Rattle.file.proofs.Clear.{clear-zeros, zeros-clear}
-use Rattle.file.proofs.Tables.{part-more, part-inner}
+use Rattle.file.proofs.Pieces.{part-more, part-inner}
 use Rattle.file.proofs.RowTrips.{value-read, value-written}
 
 -- ---- a curve's kind

@@ -3,7 +3,7 @@ pub mod Patterns
 pub mod Placed
 pub mod Blocks
 pub mod Sealed
-pub mod Tables
+pub mod Pieces
 pub mod Sizes
 pub mod Fields
 pub mod Judged

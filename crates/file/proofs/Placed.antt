@@ -1,11 +1,11 @@
 -- The laws of bytes placed in a list: after a front, one after another, and into a new block of zeros.
 use mathlib.Core.Path.{_≡_, refl, sym, ap, _∙_}
 use Prim.Native.Nat.{ℕ, zero, suc, _+_, _-_, _≤_}
-use native.Mathlib.Nat.{sub-zero, zero-sub, suc-sub-suc}
+use native.Mathlib.Nat.{le-refl, sub-zero, zero-sub, suc-sub-suc}
 use native.Mathlib.Omega.{arith}
 use mathlib.Core.List.{List, [], _∷_, _++_, append-assoc, append-nil}
-use lib.ListN.{length, take, drop, length-append, length-replicate, replicate-append-replicate, drop-of-length-le}
-use lib.Seq.{take-take, drop-drop, take-at, drop-at, length-take-le, take-length, paste}
+use lib.ListN.{length, take, drop, length-append, length-drop, length-replicate, replicate-append-replicate, drop-of-length-le}
+use lib.Seq.{take-take, take-all, drop-drop, take-at, drop-at, length-take-le, take-length, paste}
 use Rattle.circuit.specs.File.{blockLength, zeros}
 use Rattle.file.specs.Placing.{placed, begun}
 
@@ -29,6 +29,13 @@ split-zeros a b n e = ap zeros (sym e) ∙ sym (replicate-append-replicate a b 0
 pub paste-whole : (d v : List ℕ) (at k : ℕ) → length v ≡ k → paste d at v k ≡ placed d at v
 paste-whole d v at k e = rw (← e, take-length)
 
+-- v copied over the front of what stands from `at` on
+pub placed-copy : (d v : List ℕ) (at : ℕ) {part : List ℕ} → part ≡ take (length v) v ++ drop (length v) (take (length d - at) (drop at d))
+    → take at d ++ (part ++ drop (length d - at) (drop at d)) ≡ placed d at v
+placed-copy d v at e =
+    let all : length (drop at d) ≤ length d - at = rw length-drop (le-refl _) in
+    rw (e, take-length, take-all (length d - at) (drop at d) all, drop-of-length-le (drop at d) all, append-nil, drop-drop, append-assoc)
+
 -- after a front
 placed-after : (a r v : List ℕ) (at : ℕ) → length a ≡ at → placed (a ++ r) at v ≡ a ++ v ++ drop (length v) r
 placed-after a r v at e =
@@ -38,7 +45,8 @@ placed-after a r v at e =
 -- where what was placed before ends
 placed-more : (d a b : List ℕ) (at m : ℕ) → at + length a ≡ m → at ≤ length d → placed (placed d at a) m b ≡ placed d at (a ++ b)
 placed-more d a b at m e h =
-    placed-after (take at d ++ a) (drop (at + length a) d) b m (length-append (take at d) a ∙ ap (λ (x : ℕ). x + length a) (length-take-le at d h) ∙ e)
+    placed-after (take at d ++ a) (drop (at + length a) d) b m
+    (length-append (take at d) a ∙ ap (λ (x : ℕ). x + length a) (length-take-le at d h) ∙ e)
     ∙ ap (λ (x : List ℕ). take at d ++ a ++ b ++ x) (drop-drop (length b) (at + length a) d ∙ ap (λ (x : ℕ). drop x d) same)
     ∙ ap (λ (x : List ℕ). x ++ drop (at + length (a ++ b)) d) (append-assoc (take at d) a b)
   where
@@ -83,10 +91,15 @@ module _ {n : ℕ} {b fields : List ℕ} (g : Begun n b fields) where
 
   -- k zeros that stay
   pub begun-gap : (k : ℕ) → n + k ≤ blockLength → Begun (n + k) b (fields ++ zeros k)
-  begun-gap k h = record { bytes = begun-bytes ∙ ap (λ (x : List ℕ). fields ++ x) rest ∙ sym (append-assoc fields (zeros k) (drop (0 + length (fields ++ zeros k)) (zeros blockLength))); long = long }
+  begun-gap k h = record {
+    bytes = begun-bytes ∙ ap (λ (x : List ℕ). fields ++ x) rest ∙ sym (append-assoc fields (zeros k) _);
+    long = long;
+  }
     where
       long : length (fields ++ zeros k) ≡ n + k
       long = length-append fields (zeros k) ∙ rw (g .long, length-replicate {A = ℕ} k 0)
 
       rest : zeros (blockLength - length fields) ≡ zeros k ++ drop (0 + length (fields ++ zeros k)) (zeros blockLength)
-      rest = rw (drop-zeros (0 + length (fields ++ zeros k)) blockLength) (split-zeros k (blockLength - (0 + length (fields ++ zeros k))) (blockLength - length fields) (omega (arith, long, g .long)))
+      rest =
+          let n = 0 + length (fields ++ zeros k) in
+          rw (drop-zeros n blockLength) (split-zeros k (blockLength - n) (blockLength - length fields) (omega (arith, long, g .long)))

@@ -32,7 +32,7 @@ use Rattle.file.proofs.Digits.{bytes-drop, bytes-take, part-room}
 use Rattle.file.proofs.Sizes.{heading-size, row-size, column-size, rows-size, columns-size, blocks-roomy}
 use Rattle.file.proofs.Blocks.{behind, block-form, block-clear, block-right, block-back}
 use Rattle.file.proofs.Sealed.{Roomy, roomy-at, sealed-length, sealed-at, sealed-back}
-use Rattle.file.proofs.Tables.{part-inner, pieces-at, pieces-back}
+use Rattle.file.proofs.Pieces.{part-inner, pieces-at, pieces-back}
 use Rattle.file.proofs.Clear.{clear-zeros, zeros-clear}
 use Rattle.file.proofs.Judged.{Sound, judged-sound, sound-judged, read-judged, read-on, record-read, write-on, written-length, buffer-written}
 use Rattle.file.proofs.RowTrips.{row-back, row-passes, row-read}

@@ -29,7 +29,7 @@ use Rattle.file.specs.Held.{Bytes, HeldPart}
 use Rattle.file.proofs.Digits.{number-bytes, length-bytes, part-below, part-back}
 use Rattle.file.proofs.Clear.{clear-zeros, zeros-clear, clear-number}
 use Rattle.file.proofs.Fields.{part-same}
-use Rattle.file.proofs.Tables.{part-more, part-inner}
+use Rattle.file.proofs.Pieces.{part-more, part-inner}
 
 -- ---- values
 

@@ -26,10 +26,10 @@ pub file-none : (d : List ℕ) → Entered d 0 (blockLength * 0) d (sealedFrom 0
 unfolding sealedFrom
 file-none d = record { bytes = refl; long = refl }
 
-pub file-more : {d : List ℕ} (bs : List (List ℕ)) (k : ℕ) (fields b m next : List ℕ) → Entered d 0 (blockLength * k) m (sealedFrom 0 bs) → length bs ≡ k
-    → length fields ≤ checkPlace → b ≡ begun fields → next ≡ placed m (blockLength * k) (sealed k b)
+pub file-more : {d m b next : List ℕ} (bs : List (List ℕ)) (k : ℕ) (fields : List ℕ) → Entered d 0 (blockLength * k) m (sealedFrom 0 bs)
+    → length bs ≡ k → length fields ≤ checkPlace → b ≡ begun fields → next ≡ placed m (blockLength * k) (sealed k b)
     → Entered d 0 (blockLength * k + blockLength) next (sealedFrom 0 (bs ++ (fields ∷ [])))
-file-more bs k fields b m next g e h f q =
+file-more {m = m} {next = next} bs k fields g e h f q =
     let i : 0 + length bs ≡ k = omega arith in
     rw (sealed-snoc 0 bs fields, i)
     (entered-more g zero-le (block k fields) next (blockLength * k) blockLength (omega arith) (block-length k fields h)
@@ -50,7 +50,8 @@ roomy-at (b ∷ bs) h (suc j) = roomy-at bs (h .1) j
 pub sealed-length : (k : ℕ) (bs : List (List ℕ)) → Roomy bs → length (sealedFrom k bs) ≡ blockLength * length bs
 unfolding sealedFrom
 sealed-length k [] h = refl
-sealed-length k (b ∷ bs) h = length-append (block k b) (sealedFrom (suc k) bs) ∙ omega (arith, block-length k b (h .0), sealed-length (suc k) bs (h .1))
+sealed-length k (b ∷ bs) h =
+    length-append (block k b) (sealedFrom (suc k) bs) ∙ omega (arith, block-length k b (h .0), sealed-length (suc k) bs (h .1))
 
 pub sealed-at : (k : ℕ) (bs : List (List ℕ)) → Roomy bs → (j : ℕ) → j < length bs → blockAt j (sealedFrom k bs) ≡ block (k + j) (getD bs j [])
 unfolding sealedFrom
@@ -61,13 +62,14 @@ sealed-at k (b ∷ bs) h zero l =
 sealed-at k (b ∷ bs) h (suc j) l =
     let e : suc k + j ≡ k + suc j = omega arith in
     let n : blockLength * suc j ≡ blockLength + blockLength * j = omega arith in
-    rw (n, ← drop-drop (blockLength * j) blockLength (block k b ++ sealedFrom (suc k) bs), drop-at (block k b) (sealedFrom (suc k) bs) blockLength (block-length k b (h .0)))
+    let rest = sealedFrom (suc k) bs in
+    rw (n, ← drop-drop (blockLength * j) blockLength (block k b ++ rest), drop-at (block k b) rest blockLength (block-length k b (h .0)))
     (sealed-at (suc k) bs (h .1) j (omega arith) ∙ ap (λ (i : ℕ). block i (getD bs j [])) e)
 
 -- ---- blocks that are a list's own, from block k on
 
-pub sealed-back : (k : ℕ) (b : List ℕ) (bs : List (List ℕ)) (s : List ℕ) → block k b ≡ blockAt k s → sealedFrom (suc k) bs ≡ drop (blockLength * suc k) s
-    → sealedFrom k (b ∷ bs) ≡ drop (blockLength * k) s
+pub sealed-back : (k : ℕ) (b : List ℕ) (bs : List (List ℕ)) (s : List ℕ) → block k b ≡ blockAt k s
+    → sealedFrom (suc k) bs ≡ drop (blockLength * suc k) s → sealedFrom k (b ∷ bs) ≡ drop (blockLength * k) s
 unfolding sealedFrom
 sealed-back k b bs s e f =
     let n : blockLength * suc k ≡ blockLength * k + blockLength = omega arith in

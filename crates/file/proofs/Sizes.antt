@@ -14,7 +14,7 @@ use Rattle.circuit.specs.declared.Column.{Column}
 use Rattle.circuit.specs.declared.Record.{Record}
 use Rattle.laws.specs.Accepted.{Sized}
 use Rattle.file.specs.Placing.{headingLength}
-use Rattle.file.proofs.Tables.{pieces-length}
+use Rattle.file.proofs.Pieces.{pieces-length}
 use Rattle.file.proofs.Sealed.{Roomy}
 
 pub heading-size : (r : Record) → length (heading r) ≡ headingLength

@@ -1,5 +1,5 @@
 // A block of a file: its check, and the place for it in the last four bytes.
-use crate::bytes;
+use crate::field;
 use circuit::BLOCK_LENGTH;
 use circuit::CHECK_PLACE;
 ghost use mathlib.Core.Path.{_≡_};
@@ -19,7 +19,7 @@ fn check_of(s: &[u8], k: u8) -> u32
     let mut sum: u64 = 0;
     let mut i: usize = 0;
     while i < WORDS {
-        sum += bytes::number(s, 4 * i, 4);
+        sum += field::number(s, 4 * i, 4);
         i += 1;
     }
     ((sum + k as u64 + 1) % 4294967296) as u32
@@ -33,7 +33,7 @@ pub(crate) fn is_wrong(s: &[u8], k: u8) -> bool
     let a = BLOCK_LENGTH * k as usize;
     let e = a + BLOCK_LENGTH;
     let b = &s[a..e];
-    bytes::word(b, CHECK_PLACE) != check_of(b, k)
+    field::word(b, CHECK_PLACE) != check_of(b, k)
 }
 
 // The block with its check in its place.
@@ -42,7 +42,7 @@ fn seal(b: [u8; BLOCK_LENGTH], k: u8) -> [u8; BLOCK_LENGTH]
 {
     let mut r = b;
     let check = check_of(&r, k);
-    bytes::put(&mut r, CHECK_PLACE, 4, check as u64);
+    field::put(&mut r, CHECK_PLACE, 4, check as u64);
     r
 }
 
@@ -51,11 +51,7 @@ fn place(out: &mut [u8], at: usize, b: &[u8])
     requires { ⌜ at + length (now b) ≤ length (now out) ⌝ }
     ensures { λ _. ⌜ now (out .exit) ≡ placed (now (out .entry)) at (now (b .entry)) ⌝ }
 {
-    let mut i = 0;
-    while i < b.len() {
-        out[at + i] = b[i];
-        i += 1;
-    }
+    bytes::copy(b, &mut out[at..]);
 }
 
 // Block `k` of a file, with its check.

@@ -1,5 +1,5 @@
 // The block of columns, eight bytes each: x, then y.
-use crate::bytes;
+use crate::field;
 use circuit::BLOCK_LENGTH;
 use circuit::CHECK_PLACE;
 use circuit::COLUMNS;
@@ -27,8 +27,8 @@ fn column_from(s: &[u8], at: usize) -> Column
     requires { ⌜ at + columnLength ≤ length (now s) ⌝ }
     ensures { λ r. ⌜ r ≡ columnFrom at (now (s .entry)) ⌝ }
 {
-    let x = bytes::signed(s, at);
-    let y = bytes::signed(s, at + 4);
+    let x = field::signed(s, at);
+    let y = field::signed(s, at + 4);
     Column { x, y }
 }
 
@@ -49,10 +49,10 @@ fn put_column(b: &mut [u8], at: usize, c: Column)
     requires { ⌜ at + columnLength ≤ length (now b) ⌝ }
     ensures { λ _. ⌜ now (b .exit) ≡ placed (now (b .entry)) at (columnFields c) ⌝ }
 {
-    let x = bytes::pattern(c.x);
-    let y = bytes::pattern(c.y);
-    bytes::put(b, at, 4, x as u64);
-    bytes::put(b, at + 4, 4, y as u64);
+    let x = field::pattern(c.x);
+    let y = field::pattern(c.y);
+    field::put(b, at, 4, x as u64);
+    field::put(b, at + 4, 4, y as u64);
 }
 
 pub(crate) fn column_block(columns: [Column; COLUMNS]) -> [u8; BLOCK_LENGTH]

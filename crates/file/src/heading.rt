@@ -1,6 +1,6 @@
 // The heading, which is block 0; the record that a whole file holds, and the record of zeros.
-use crate::bytes;
 use crate::column;
+use crate::field;
 use crate::row;
 use circuit::BLOCK_LENGTH;
 use circuit::CHECK_PLACE;
@@ -50,15 +50,15 @@ pub(crate) fn heading_block(r: Record) -> [u8; BLOCK_LENGTH]
 {
     let kind = r.kind;
     let number = kind_number(kind);
-    let resistance = bytes::bits(r.resistance);
+    let resistance = field::bits(r.resistance);
     let mut b = [0u8; BLOCK_LENGTH];
-    bytes::put(&mut b, 0, 2, VERSION);
-    bytes::put(&mut b, 2, 1, r.count as u64);
-    bytes::put(&mut b, 3, 1, r.tap as u64);
-    bytes::put(&mut b, 4, 1, number as u64);
-    bytes::put(&mut b, 5, 1, r.width as u64);
-    bytes::put(&mut b, 8, 4, r.rate as u64);
-    bytes::put(&mut b, 16, 8, resistance);
+    field::put(&mut b, 0, 2, VERSION);
+    field::put(&mut b, 2, 1, r.count as u64);
+    field::put(&mut b, 3, 1, r.tap as u64);
+    field::put(&mut b, 4, 1, number as u64);
+    field::put(&mut b, 5, 1, r.width as u64);
+    field::put(&mut b, 8, 4, r.rate as u64);
+    field::put(&mut b, 16, 8, resistance);
     b
 }
 
@@ -66,14 +66,14 @@ pub(crate) fn record_of(s: &[u8]) -> Record
     requires { ⌜ length (now s) ≡ fileLength ⌝ }
     ensures { λ r. ⌜ r ≡ recordOf (now (s .entry)) ⌝ }
 {
-    let rate = bytes::word(s, 8);
-    let count = bytes::byte(s, 2);
-    let tap = bytes::byte(s, 3);
+    let rate = field::word(s, 8);
+    let count = field::byte(s, 2);
+    let tap = field::byte(s, 3);
     let rows = row::rows(s);
-    let kind = kind_of(bytes::byte(s, 4));
-    let width = bytes::byte(s, 5);
+    let kind = kind_of(field::byte(s, 4));
+    let width = field::byte(s, 5);
     let columns = column::columns(s);
-    let resistance = bytes::float(s, 16);
+    let resistance = field::float(s, 16);
     Record {
         rate,
         count,

@@ -1,8 +1,8 @@
-// The circuit file: reading it, and writing it. Numbers as bytes are in `bytes`, a block and its check in `block`, the three blocks'
+// The circuit file: reading it, and writing it. Numbers as bytes are in `field`, a block and its check in `block`, the three blocks'
 // contents in `heading`, `row` and `column`, and what is asked of a file's bytes in `rules`.
 mod block;
-mod bytes;
 mod column;
+mod field;
 mod heading;
 mod row;
 mod rules;

@@ -1,6 +1,5 @@
 // The block of rows, sixteen bytes each: kind, first child, second child, a zero, steady microvolts, value. What a kind does not use is zero.
-use crate::bytes;
-use circuit::Adaptor;
+use crate::field;
 use circuit::BLOCK_LENGTH;
 use circuit::CHECK_PLACE;
 use circuit::Element;
@@ -9,13 +8,14 @@ use circuit::Part;
 use circuit::ROWS;
 use circuit::ROWS_PER_BLOCK;
 use circuit::Row;
+use sheet::part_of;
 ghost use mathlib.Core.Path.{_≡_};
 ghost use mathlib.Core.List.{map};
 ghost use Prim.Native.Nat.{_+_, _≤_};
 ghost use lib.ListN.{length};
 ghost use Rattle.circuit.specs.Counting.{table};
 ghost use Rattle.circuit.specs.Record.{rowLimit};
-ghost use Rattle.circuit.specs.File.{fileLength, rowLength, bytes, rowFields, leafFields, partFields, joinNumber, partOf, rowFrom, rowPlace, rowBytes, concat};
+ghost use Rattle.circuit.specs.File.{fileLength, rowLength, bytes, rowFields, leafFields, partFields, joinNumber, rowFrom, rowPlace, rowBytes, concat};
 ghost use Rattle.file.specs.Placing.{placed, begun};
 
 // How many bytes a row has; where row 0 begins in a file, and where the last one of its block ends.
@@ -28,39 +28,16 @@ pub(crate) const END: usize = START + LENGTH * ROWS_PER_BLOCK;
 // How many bytes are left between the last row and the check.
 pub(crate) const LEFT: usize = CHECK_PLACE - LENGTH * ROWS_PER_BLOCK;
 
-// The part of a kind's number; a number past the list of kinds is read as blank, and refused elsewhere.
-fn part_of(kind: u8, first: u8, second: u8, microvolts: i32, value: f64) -> Part
-    ensures { λ r. ⌜ r ≡ partOf kind first second microvolts value ⌝ }
-{
-    match kind {
-        1 => Part::Leaf(Element::Resistor(value)),
-        2 => Part::Leaf(Element::Capacitor(value)),
-        3 => Part::Leaf(Element::Inductor(value)),
-        4 => Part::Leaf(Element::Input(value)),
-        5 => Part::Leaf(Element::Steady(value, microvolts)),
-        6 => Part::Adaptor(Adaptor {
-            join: Join::Series,
-            first,
-            second,
-        }),
-        7 => Part::Adaptor(Adaptor {
-            join: Join::Parallel,
-            first,
-            second,
-        }),
-        _ => Part::Blank,
-    }
-}
-
+// A number past the list of kinds is read as blank, and refused elsewhere.
 fn row_from(s: &[u8], at: usize) -> Row
     requires { ⌜ at + rowLength ≤ length (now s) ⌝ }
     ensures { λ r. ⌜ r ≡ rowFrom at (now (s .entry)) ⌝ }
 {
-    let kind = bytes::byte(s, at);
-    let first = bytes::byte(s, at + 1);
-    let second = bytes::byte(s, at + 2);
-    let microvolts = bytes::signed(s, at + 4);
-    let value = bytes::float(s, at + 8);
+    let kind = field::byte(s, at);
+    let first = field::byte(s, at + 1);
+    let second = field::byte(s, at + 2);
+    let microvolts = field::signed(s, at + 4);
+    let value = field::float(s, at + 8);
     let part = part_of(kind, first, second, microvolts, value);
     Row { part }
 }
@@ -82,13 +59,13 @@ fn put_fields(b: &mut [u8], at: usize, kind: u8, first: u8, second: u8, microvol
     requires { ⌜ at + rowLength ≤ length (now b) ⌝ }
     ensures { λ _. ⌜ now (b .exit) ≡ placed (now (b .entry)) at (rowFields kind first second microvolts (bytes 8 value)) ⌝ }
 {
-    let pattern = bytes::pattern(microvolts);
-    bytes::put(b, at, 1, kind as u64);
-    bytes::put(b, at + 1, 1, first as u64);
-    bytes::put(b, at + 2, 1, second as u64);
-    bytes::put(b, at + 3, 1, 0);
-    bytes::put(b, at + 4, 4, pattern as u64);
-    bytes::put(b, at + 8, 8, value);
+    let pattern = field::pattern(microvolts);
+    field::put(b, at, 1, kind as u64);
+    field::put(b, at + 1, 1, first as u64);
+    field::put(b, at + 2, 1, second as u64);
+    field::put(b, at + 3, 1, 0);
+    field::put(b, at + 4, 4, pattern as u64);
+    field::put(b, at + 8, 8, value);
 }
 
 fn put_leaf(b: &mut [u8], at: usize, e: Element)
@@ -96,11 +73,11 @@ fn put_leaf(b: &mut [u8], at: usize, e: Element)
     ensures { λ _. ⌜ now (b .exit) ≡ placed (now (b .entry)) at (leafFields e) ⌝ }
 {
     match e {
-        Element::Resistor(r) => put_fields(b, at, 1, 0, 0, 0, bytes::bits(r)),
-        Element::Capacitor(c) => put_fields(b, at, 2, 0, 0, 0, bytes::bits(c)),
-        Element::Inductor(l) => put_fields(b, at, 3, 0, 0, 0, bytes::bits(l)),
-        Element::Input(r) => put_fields(b, at, 4, 0, 0, 0, bytes::bits(r)),
-        Element::Steady(r, v) => put_fields(b, at, 5, 0, 0, v, bytes::bits(r)),
+        Element::Resistor(r) => put_fields(b, at, 1, 0, 0, 0, field::bits(r)),
+        Element::Capacitor(c) => put_fields(b, at, 2, 0, 0, 0, field::bits(c)),
+        Element::Inductor(l) => put_fields(b, at, 3, 0, 0, 0, field::bits(l)),
+        Element::Input(r) => put_fields(b, at, 4, 0, 0, 0, field::bits(r)),
+        Element::Steady(r, v) => put_fields(b, at, 5, 0, 0, v, field::bits(r)),
     }
 }
 

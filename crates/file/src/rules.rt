@@ -1,7 +1,7 @@
 // What is asked of a file's bytes, before its record is looked at: length, checks, version, and that what nothing uses is zero.
 use crate::block;
-use crate::bytes;
 use crate::column;
+use crate::field;
 use crate::heading;
 use crate::row;
 use circuit::Answer;
@@ -35,7 +35,7 @@ fn is_clear_row(s: &[u8], at: usize) -> bool
     requires { ⌜ at + rowLength ≤ length (now s) ⌝ }
     ensures { λ r. ⌜ r ≡ clearRow (numberAt 1 at (now (s .entry))) at (now (s .entry)) ⌝ }
 {
-    let kind = bytes::byte(s, at);
+    let kind = field::byte(s, at);
     let children = ((6 <= kind) & (kind <= 7)) | is_clear(s, at + 1, 2);
     let gap = is_clear(s, at + 3, 1);
     let microvolts = (kind == 5) | is_clear(s, at + 4, 4);
@@ -61,7 +61,7 @@ fn is_clear_file(s: &[u8]) -> bool
     requires { ⌜ length (now s) ≡ fileLength ⌝ }
     ensures { λ r. ⌜ r ≡ clearFile (now (s .entry)) ⌝ }
 {
-    let heading = (bytes::byte(s, 4) <= 2)
+    let heading = (field::byte(s, 4) <= 2)
         & is_clear(s, 6, 2)
         & is_clear(s, 12, 4)
         & is_clear(s, heading::END, heading::LEFT);
@@ -98,7 +98,7 @@ pub(crate) fn judged(s: &[u8]) -> Answer
     if wrong.number() != 0 {
         return wrong;
     }
-    if bytes::number(s, 0, 2) != heading::VERSION {
+    if field::number(s, 0, 2) != heading::VERSION {
         return Answer::Version;
     }
     if is_clear_file(s) {

@@ -48,7 +48,8 @@ module _ {m : ℕ} {t out mid : List ℕ} {at n : ℕ} (p : Puts m t at out n mi
 
   pub puts-then : {k : ℕ} {u after : List ℕ} {l : ℕ} → Puts k u n mid l after → Puts (m + k) (t ++ u) at out l after
   puts-then {k} {u} {after} {l} q =
-      let front : take n mid ≡ take at out ++ t = rw (p .ends, pasted) (take-paste out at t (length t) begins (le-refl _) ∙ ap (λ (s : List ℕ). take at out ++ s) (take-length t)) in
+      let front : take n mid ≡ take at out ++ t =
+      rw (p .ends, pasted) (take-paste out at t (length t) begins (le-refl _) ∙ ap (λ (s : List ℕ). take at out ++ s) (take-length t)) in
       let back : drop (n + length u) mid ≡ drop (at + length t + length u) out =
       sym (drop-drop (length u) n mid)
       ∙ ap (drop (length u)) (rw (p .ends, pasted) (drop-paste out at t (length t) begins (le-refl _)))
@@ -64,6 +65,11 @@ module _ {m : ℕ} {t out mid : List ℕ} {at n : ℕ} (p : Puts m t at out n mi
             ∙ ap (λ (s : List ℕ). take at out ++ t ++ u ++ s) back
             ∙ ap (λ (s : List ℕ). s ++ drop (at + length t + length u) out) (append-assoc (take at out) t u));
       }
+
+-- a text that goes by cases, in the case that was found
+pub puts-case : {A : Type 0} (f : A → List ℕ) {a found : A} {m most at n : ℕ} {out after : List ℕ} → a ≡ found
+    → Puts m (f found) at out n after → m ≤ most → Puts most (f a) at out n after
+puts-case f e p h = rw e (puts-most p h)
 
 -- ---- a text at the start of a buffer
 

@@ -21,12 +21,7 @@ pub(crate) fn put_text(out: &mut [u8], at: usize, t: &[u8]) -> usize
     requires { ⌜ at + length (now t) ≤ length (now out) ⌝ }
     ensures { λ next. ⌜ Puts (length (now (t .entry))) (now (t .entry)) at (now (out .entry)) next (now (out .exit)) ⌝ }
 {
-    let mut i = 0;
-    while i < t.len() {
-        out[at + i] = t[i];
-        i += 1;
-    }
-    at + t.len()
+    at + bytes::copy(t, &mut out[at..])
 }
 
 // The last k decimal digits of n, with no zero in front.

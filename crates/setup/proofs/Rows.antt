@@ -9,7 +9,7 @@ use borrow.Author.Tests.{ltb-false, lt-leb}
 use lib.Dec.{leb, ltb}
 use lib.Ieee.{Float, nan}
 use lib.ListN.{getD}
-use Rattle.circuit.specs.Counting.{between, table}
+use Rattle.circuit.specs.Counting.{between}
 use Rattle.circuit.specs.Numbers.{lowest}
 use Rattle.circuit.specs.Record.{rowLimit, partAt}
 use Rattle.circuit.specs.SetUp.{nothing, parts, portOf, resistanceAt, ratioAt, preparedPart, preparedRows}
@@ -22,7 +22,7 @@ use Rattle.laws.specs.Accepted.{Lower}
 use Rattle.laws.proofs.Counting.{getD-table, table-same, lowest-same}
 use Rattle.laws.proofs.Trees.{tree-blank, tree-leaf, resistance-leaf, ratio-leaf, resistance-adaptor, ratio-adaptor}
 use Rattle.setup.specs.Ratio.{proper}
-use Rattle.setup.specs.Rows.{row, joinedRow, preparedFrom, Rooted, Filled}
+use Rattle.setup.specs.Rows.{row, joinedRow, preparedFrom, rowsBy, Rooted, Filled}
 use Rattle.setup.proofs.Width.{proper-below}
 
 -- the record's row j, as set-up fills it
@@ -96,8 +96,8 @@ module _ (r : Record) (rooted : Rooted r) where
         (λ j l. ap (ratioFault (partAt r j)) (ratio-at j (omega (arith, rooted .formed .short))) ∙ same-fault (partAt r j) (ratioAt r j))
 
     -- where every ratio is proper
-    pub rows-prepared : ((j : ℕ) → ratioAt r j < parts) → table (λ j. row (getD Rs j nan) (getD gs j 0)) rowLimit ≡ preparedRows r
+    pub rows-prepared : ((j : ℕ) → ratioAt r j < parts) → rowsBy Rs gs ≡ preparedRows r
     unfolding preparedRows
     rows-prepared small =
-        table-same (λ j. row (getD Rs j nan) (getD gs j 0)) (λ j. preparedPart r j (partAt r j)) rowLimit
+        table-same _ (λ j. preparedPart r j (partAt r j)) rowLimit
         (λ j l. ap₂ row (resistance-at j l) (ratio-at j l ∙ sym (proper-below parts _ (small j))) ∙ sym (port-row j (partAt r j) refl))

@@ -3,21 +3,24 @@
 ghost use mathlib.Core.Path.{_≡_};
 ghost use Prim.Native.Nat.{_<_, _≤_, _^_};
 ghost use mathlib.Core.Bool.{not, _&&_, cond};
+ghost use mathlib.Core.List.{List};
 ghost use lib.Dec.{eqb, leb};
 ghost use lib.IntN.{pos, _-ℤ_, natAbs};
 ghost use lib.Signed.{ltZ};
 ghost use Rattle.circuit.specs.Counting.{within, some};
 ghost use Rattle.circuit.specs.Numbers.{handed, unless, lowest};
-ghost use Rattle.circuit.specs.Record.{columnAt, columnLimit, atOrigin};
+ghost use Rattle.circuit.specs.Record.{columnLimit, atOrigin};
 ghost use Rattle.circuit.specs.Curve.{waveLimit, beside, starts, soundColumn, passesOrigin, columnRule};
 ghost use Rattle.laws.specs.Numbered.{numbered};
-ghost use Rattle.laws.proofs.Formed.{Formed};
+ghost use Rattle.circuit.specs.declared.Row.{Row};
+ghost use Rattle.sheet.specs.Sheet.{columnsIn, columnIn, recordIn};
 use circuit::Answer;
 use circuit::Column;
 use circuit::CurveKind;
-use circuit::Record;
 use circuit::in_wave_limit;
 use circuit::is_zero;
+use sheet::Coordinates;
+use sheet::Heading;
 
 pub(crate) fn at_origin(c: Column) -> bool
     ensures { λ b. ⌜ b ≡ atOrigin c ⌝ }
@@ -69,18 +72,24 @@ fn sound_column(kind: CurveKind, i: u8, before: Column, here: Column) -> bool
     }
 }
 
-fn lowest_column(r: Record) -> Answer
-    requires { ⌜ Formed r ⌝ }
-    ensures { λ a. ⌜ handed a ≡ numbered 10 (lowest (λ i. not (soundColumn r i)) (r .width)) ⌝ }
+fn lowest_column(h: Heading, xs: &Coordinates, ys: &Coordinates) -> Answer
+    requires { ⌜ h .width ≤ columnLimit ⌝ }
+    ensures { λ a. ⌜ ((rows : List Row) → handed a
+        ≡ numbered 10 (lowest (λ i. not (soundColumn (recordIn h rows (columnsIn (now (xs .entry)) (now (ys .entry)))) i)) (h .width))) ⌝ }
 {
-    let kind = r.kind;
-    let columns = r.columns;
-    let width = r.width;
+    let kind = h.kind;
+    let width = h.width;
     let mut last = 0;
     for i in 0..width {
         let at = i as usize;
-        let before = columns[last];
-        let here = columns[at];
+        let before = Column {
+            x: xs[last],
+            y: ys[last],
+        };
+        let here = Column {
+            x: xs[at],
+            y: ys[at],
+        };
         if !sound_column(kind, i, before, here) {
             return Answer::Curve(i);
         }
@@ -89,47 +98,46 @@ fn lowest_column(r: Record) -> Answer
     Answer::Done
 }
 
-fn has_origin(r: Record) -> bool
-    requires { ⌜ r .width ≤ columnLimit ⌝ }
-    ensures { λ b. ⌜ b ≡ some (λ i. atOrigin (columnAt r i)) (r .width) ⌝ }
+fn has_origin(width: usize, xs: &Coordinates, ys: &Coordinates) -> bool
+    requires { ⌜ width ≤ columnLimit ⌝ }
+    ensures { λ b. ⌜ b ≡ some (λ i. atOrigin (columnIn (now (xs .entry)) (now (ys .entry)) i)) width ⌝ }
 {
-    let columns = r.columns;
-    let width = r.width as usize;
     let mut found = false;
     for i in 0..width {
-        let here = columns[i];
+        let here = Column { x: xs[i], y: ys[i] };
         found = found | at_origin(here);
     }
     found
 }
 
 // A single has a column (0, 0).
-fn passes_origin(r: Record) -> bool
-    requires { ⌜ r .width ≤ columnLimit ⌝ }
-    ensures { λ b. ⌜ b ≡ passesOrigin (r .kind) r ⌝ }
+fn passes_origin(h: Heading, xs: &Coordinates, ys: &Coordinates) -> bool
+    requires { ⌜ h .width ≤ columnLimit ⌝ }
+    ensures { λ b. ⌜ ((rows : List Row) → b ≡ passesOrigin (h .kind) (recordIn h rows (columnsIn (now (xs .entry)) (now (ys .entry))))) ⌝ }
 {
-    let kind = r.kind;
+    let kind = h.kind;
     match kind {
         CurveKind::Unset => true,
-        CurveKind::Single => has_origin(r),
+        CurveKind::Single => has_origin(h.width as usize, xs, ys),
         CurveKind::Pair => true,
     }
 }
 
-fn origin_rule(r: Record) -> Answer
-    requires { ⌜ r .width ≤ columnLimit ⌝ }
-    ensures { λ a. ⌜ handed a ≡ numbered 10 (unless (passesOrigin (r .kind) r) 0) ⌝ }
+fn origin_rule(h: Heading, xs: &Coordinates, ys: &Coordinates) -> Answer
+    requires { ⌜ h .width ≤ columnLimit ⌝ }
+    ensures { λ a. ⌜ ((rows : List Row) → handed a ≡ numbered 10 (unless (passesOrigin (h .kind) (recordIn h rows
+        (columnsIn (now (xs .entry)) (now (ys .entry))))) 0)) ⌝ }
 {
-    if passes_origin(r) {
+    if passes_origin(h, xs, ys) {
         Answer::Done
     } else {
         Answer::Curve(0)
     }
 }
 
-pub(crate) fn column_rule(r: Record) -> Answer
-    requires { ⌜ Formed r ⌝ }
-    ensures { λ a. ⌜ handed a ≡ numbered 10 (columnRule r) ⌝ }
+pub(crate) fn column_rule(h: Heading, xs: &Coordinates, ys: &Coordinates) -> Answer
+    requires { ⌜ h .width ≤ columnLimit ⌝ }
+    ensures { λ a. ⌜ ((rows : List Row) → handed a ≡ numbered 10 (columnRule (recordIn h rows (columnsIn (now (xs .entry)) (now (ys .entry)))))) ⌝ }
 {
-    lowest_column(r).or(origin_rule(r))
+    lowest_column(h, xs, ys).or(origin_rule(h, xs, ys))
 }

@@ -1,16 +1,18 @@
 // Set-up: rules 4 to 11 of a record, and its prepared rows. The lowest number that applies is handed back, with its place.
-// Every loop first takes the rows or the columns that it reads out of the record, so that they alone are copied and not all of it.
+// The record is laid out once as lists of numbers, and they are lent to every rule.
 
 ghost use mathlib.Core.Path.{_≡_};
+ghost use Prim.Native.Nat.{_≤_, _<_};
+ghost use mathlib.Core.List.{List};
 ghost use Rattle.circuit.specs.Numbers.{handed, judge};
 ghost use Rattle.circuit.specs.Record.{rowLimit, recordRules};
-ghost use lib.ListN.{replicate};
-ghost use Rattle.circuit.specs.SetUp.{nothing, portRules};
+ghost use Rattle.circuit.specs.SetUp.{portRules};
 ghost use Rattle.circuit.specs.Run.{freshWaves};
-ghost use Rattle.circuit.specs.Promises.{SetsUp};
-ghost use Rattle.laws.proofs.Formed.{Formed};
+ghost use Rattle.circuit.specs.Promises.{SetsUp, Finds};
+ghost use Rattle.circuit.specs.declared.Column.{Column};
+ghost use Rattle.sheet.specs.Sheet.{rowsIn, columnsIn, recordIn};
 ghost use Rattle.setup.specs.Answers.{treeRules};
-ghost use Rattle.setup.specs.Rows.{Rooted, Filled};
+ghost use Rattle.setup.specs.Rows.{Rooted, Filled, Zeros};
 
 mod columns;
 mod form;
@@ -19,70 +21,129 @@ mod tree;
 mod value;
 
 use circuit::Answer;
-use circuit::Prepared;
+use circuit::COLUMNS;
+use circuit::Ports;
 use circuit::ROWS;
 use circuit::Record;
 use circuit::SetUp;
 use circuit::State;
+use sheet::Cells;
+use sheet::Coordinates;
+use sheet::Heading;
+use sheet::Microvolts;
+use sheet::Values;
 
 // 5 to 7.
-fn tree_answer(r: Record) -> Answer
-    requires { ⌜ Formed r ⌝ }
-    ensures { λ a. ⌜ handed a ≡ judge treeRules r ⌝ }
+fn tree_answer(h: Heading, cells: &Cells, microvolts: &Microvolts, values: &Values) -> Answer
+    requires { ⌜ (0 < h .count) × (h .count ≤ rowLimit) ⌝ }
+    ensures { λ a. ⌜ ((columns : List Column) → handed a ≡ judge treeRules (recordIn h
+        (rowsIn (now (cells .entry)) (now (microvolts .entry)) (now (values .entry))) columns)) ⌝ }
 {
-    let rate = form::rate_rule(r);
-    let lower = tree::children_rule(r);
-    let once = tree::used_once_rule(r);
-    let tapped = tree::input_and_tap_rule(r);
-    let valued = value::value_rule(r);
+    let rate = form::rate_rule(h.rate);
+    let lower = tree::children_rule(h.count, cells, microvolts, values);
+    let once = tree::used_once_rule(h.count, cells, microvolts, values);
+    let tapped = tree::input_and_tap_rule(h.count, h.tap, cells, microvolts, values);
+    let valued = value::value_rule(h.count, cells, microvolts, values);
     rate.or(lower.or(once.or(tapped.or(valued))))
 }
 
 // 4 to 7: where the form is wrong the later rules are not tried.
-fn record_answer(r: Record) -> Answer
-    ensures { λ a. ⌜ handed a ≡ judge recordRules r ⌝ }
+fn record_answer(
+    h: Heading,
+    cells: &Cells,
+    microvolts: &Microvolts,
+    values: &Values,
+    xs: &Coordinates,
+    ys: &Coordinates,
+) -> Answer
+    ensures { λ a. ⌜ handed a ≡ judge recordRules (recordIn h (rowsIn (now (cells .entry)) (now (microvolts .entry)) (now (values .entry)))
+        (columnsIn (now (xs .entry)) (now (ys .entry)))) ⌝ }
 {
-    let form = form::form_rule(r);
+    let form = form::form_rule(h, cells, microvolts, values, xs, ys);
     if form.number() != 0 {
         return form;
     }
-    tree_answer(r)
+    tree_answer(h, cells, microvolts, values)
 }
 
 // 8 to 11.
-fn port_answer(r: Record, resistances: &[f64; ROWS], ratios: &[u32; ROWS]) -> Answer
-    requires { ⌜ Rooted r × Filled r (now resistances) (now ratios) ⌝ }
-    ensures { λ a. ⌜ handed a ≡ judge portRules r ⌝ }
+fn port_answer(
+    h: Heading,
+    cells: &Cells,
+    microvolts: &Microvolts,
+    values: &Values,
+    xs: &Coordinates,
+    ys: &Coordinates,
+    resistances: &[f64; ROWS],
+    ratios: &[u32; ROWS],
+) -> Answer
+    requires { ⌜ Rooted (recordIn h (rowsIn (now cells) (now microvolts) (now values)) (columnsIn (now xs) (now ys)))
+        × Filled (recordIn h (rowsIn (now cells) (now microvolts) (now values)) (columnsIn (now xs) (now ys))) (now resistances) (now ratios) ⌝ }
+    ensures { λ a. ⌜ handed a ≡ judge portRules (recordIn h (rowsIn (now (cells .entry)) (now (microvolts .entry)) (now (values .entry)))
+        (columnsIn (now (xs .entry)) (now (ys .entry)))) ⌝ }
 {
-    let top = resistances[(r.count - 1) as usize];
-    let ranged = port::resistance_rule(r.count, resistances);
-    let rated = port::ratio_rule(r, ratios);
-    let drawn = columns::column_rule(r);
-    let fitted = port::curve_resistance_rule(r.resistance, top);
+    let top = resistances[(h.count - 1) as usize];
+    let ranged = port::resistance_rule(h.count, resistances);
+    let rated = port::ratio_rule(h.count, cells, microvolts, values, ratios);
+    let drawn = columns::column_rule(h, xs, ys);
+    let fitted = port::curve_resistance_rule(h.resistance, top);
     ranged.or(rated.or(drawn.or(fitted)))
 }
 
-fn refused(a: Answer) -> SetUp
-    ensures { λ s. ⌜ (s .answer ≡ a) × (s .rows ≡ replicate rowLimit nothing) ⌝ }
+fn refused(a: Answer) -> Ports
+    ensures { λ p. ⌜ (p .answer ≡ a) × Zeros (p .resistances) (p .ratios) ⌝ }
 {
-    let rows = [Prepared::blank(); ROWS];
-    SetUp { answer: a, rows }
+    Ports {
+        answer: a,
+        resistances: [0.0; ROWS],
+        ratios: [0; ROWS],
+    }
 }
 
-// 8 to 11, and the rows where they pass, of a record that 4 to 7 do not refuse.
-fn prepare(r: Record) -> SetUp
-    requires { ⌜ judge recordRules r .number ≡ 0 ⌝ }
-    ensures { λ s. ⌜ SetsUp r s ⌝ }
+// 8 to 11, and the ports where they pass, of a record that 4 to 7 do not refuse.
+fn prepare(
+    h: Heading,
+    cells: &Cells,
+    microvolts: &Microvolts,
+    values: &Values,
+    xs: &Coordinates,
+    ys: &Coordinates,
+) -> Ports
+    requires { ⌜ judge recordRules (recordIn h (rowsIn (now cells) (now microvolts) (now values)) (columnsIn (now xs) (now ys))) .number ≡ 0 ⌝ }
+    ensures { λ p. ⌜ Finds (recordIn h (rowsIn (now (cells .entry)) (now (microvolts .entry)) (now (values .entry)))
+        (columnsIn (now (xs .entry)) (now (ys .entry)))) p ⌝ }
 {
-    let ports = port::ports_of(r);
-    let resistances = ports.resistances;
-    let ratios = ports.ratios;
-    let port = port_answer(r, &resistances, &ratios);
+    let mut resistances = [0.0; ROWS];
+    let mut ratios = [0; ROWS];
+    port::fill_ports(h, cells, microvolts, values, &mut resistances, &mut ratios);
+    let port = port_answer(h, cells, microvolts, values, xs, ys, &resistances, &ratios);
     if port.number() != 0 {
         return refused(port);
     }
-    let rows = port::prepared_rows(&resistances, &ratios);
-    SetUp { answer: port, rows }
+    Ports {
+        answer: port,
+        resistances,
+        ratios,
+    }
+}
+
+// The rules in order, over any lists at all, of the record that they stand for.
+pub fn find_ports(
+    h: Heading,
+    cells: &Cells,
+    microvolts: &Microvolts,
+    values: &Values,
+    xs: &Coordinates,
+    ys: &Coordinates,
+) -> Ports
+    ensures { λ p. ⌜ Finds (recordIn h (rowsIn (now (cells .entry)) (now (microvolts .entry)) (now (values .entry)))
+        (columnsIn (now (xs .entry)) (now (ys .entry)))) p ⌝ }
+{
+    let answer = record_answer(h, cells, microvolts, values, xs, ys);
+    if answer.number() != 0 {
+        return refused(answer);
+    }
+    prepare(h, cells, microvolts, values, xs, ys)
 }
 
 // The rules in order, over any record at all: the lowest number that applies, with its place, or done. Where every rule passes the rows are
@@ -90,11 +151,25 @@ fn prepare(r: Record) -> SetUp
 pub fn set_up(r: Record) -> SetUp
     ensures { λ s. ⌜ SetsUp r s ⌝ }
 {
-    let answer = record_answer(r);
-    if answer.number() != 0 {
-        return refused(answer);
-    }
-    prepare(r)
+    let mut cells = [[0; 3]; ROWS];
+    let mut microvolts = [0; ROWS];
+    let mut values = [0.0; ROWS];
+    let mut xs = [0; COLUMNS];
+    let mut ys = [0; COLUMNS];
+    let h = sheet::lay(
+        r,
+        &mut cells,
+        &mut microvolts,
+        &mut values,
+        &mut xs,
+        &mut ys,
+    );
+    let ports = find_ports(h, &cells, &microvolts, &values, &xs, &ys);
+    let answer = ports.answer;
+    let resistances = ports.resistances;
+    let ratios = ports.ratios;
+    let rows = port::prepared_rows(&resistances, &ratios);
+    SetUp { answer, rows }
 }
 
 // Every stored wave is 0.

@@ -3,16 +3,18 @@
 ghost use mathlib.Core.Path.{_≡_};
 ghost use mathlib.Core.Bool.{not};
 ghost use Prim.Native.Nat.{_≤_};
+ghost use mathlib.Core.List.{List};
 ghost use lib.Ieee.{nan};
 ghost use lib.ListN.{getD};
-ghost use Rattle.circuit.specs.Counting.{table};
 ghost use Rattle.circuit.specs.Numbers.{handed, unless, lowest};
-ghost use Rattle.circuit.specs.Record.{rowLimit, partAt};
+ghost use Rattle.circuit.specs.Record.{rowLimit};
 ghost use Rattle.circuit.specs.SetUp.{inRange, leafResistance, joinedResistance, quotient, parts, scaledDown, ratioFault, fits};
 ghost use Rattle.laws.specs.Accepted.{Lower};
+ghost use Rattle.circuit.specs.declared.Column.{Column};
 ghost use Rattle.laws.specs.Numbered.{numbered};
+ghost use Rattle.sheet.specs.Sheet.{rowsIn, partIn, recordIn};
 ghost use Rattle.setup.specs.Ratio.{proper};
-ghost use Rattle.setup.specs.Rows.{row, joinedRow, preparedFrom, Rooted, Filled};
+ghost use Rattle.setup.specs.Rows.{joinedRow, preparedFrom, rowsBy, Rooted, Zeros, Filled};
 use circuit::Answer;
 use circuit::Element;
 use circuit::Join;
@@ -20,7 +22,11 @@ use circuit::PARTS;
 use circuit::Part;
 use circuit::Prepared;
 use circuit::ROWS;
-use circuit::Record;
+use sheet::Cells;
+use sheet::Heading;
+use sheet::Microvolts;
+use sheet::Values;
+use sheet::part_in;
 
 fn leaf_resistance(rate: u32, e: Element) -> f64
     ensures { λ r. ⌜ r ≡ leafResistance rate e ⌝ }
@@ -117,36 +123,33 @@ fn prepared_row(rate: u32, p: Part, resistances: &[f64; ROWS]) -> Prepared
     }
 }
 
-// Every row's port resistance and ratio, each an array of numbers, which can be lent.
-pub(crate) struct Ports {
-    pub resistances: [f64; ROWS],
-    pub ratios: [u32; ROWS],
-}
-
-// From the lowest row up: an adaptor's children are lower than it. Rows past the count are blank.
-pub(crate) fn ports_of(r: Record) -> Ports
-    requires { ⌜ Rooted r ⌝ }
-    ensures { λ p. ⌜ Filled r (p .resistances) (p .ratios) ⌝ }
+// From the lowest row up: an adaptor's children are lower than it. Rows past the count are blank, and keep their zeros.
+pub(crate) fn fill_ports(
+    h: Heading,
+    cells: &Cells,
+    microvolts: &Microvolts,
+    values: &Values,
+    resistances: &mut [f64; ROWS],
+    ratios: &mut [u32; ROWS],
+)
+    requires { ⌜ ((columns : List Column) × Rooted (recordIn h (rowsIn (now cells) (now microvolts) (now values)) columns))
+        × Zeros (now resistances) (now ratios) ⌝ }
+    ensures { λ u. ⌜ ((columns : List Column) → Rooted (recordIn h
+        (rowsIn (now (cells .entry)) (now (microvolts .entry)) (now (values .entry))) columns)
+        → Filled (recordIn h (rowsIn (now (cells .entry)) (now (microvolts .entry)) (now (values .entry))) columns) (now (resistances .exit))
+        (now (ratios .exit))) ⌝ }
 {
-    let rows = r.rows;
-    let count = r.count as usize;
-    let mut resistances = [0.0; ROWS];
-    let mut ratios = [0; ROWS];
+    let count = h.count as usize;
     for j in 0..count {
-        let row = rows[j];
-        let part = row.part;
-        let own = prepared_row(r.rate, part, &resistances);
+        let part = part_in(cells[j], microvolts[j], values[j]);
+        let own = prepared_row(h.rate, part, resistances);
         resistances[j] = own.resistance;
         ratios[j] = own.ratio;
-    }
-    Ports {
-        resistances,
-        ratios,
     }
 }
 
 pub(crate) fn prepared_rows(resistances: &[f64; ROWS], ratios: &[u32; ROWS]) -> [Prepared; ROWS]
-    ensures { λ rows. ⌜ rows ≡ table (λ j. row (getD (now (resistances .entry)) j nan) (getD (now (ratios .entry)) j 0)) rowLimit ⌝ }
+    ensures { λ rows. ⌜ rows ≡ rowsBy (now (resistances .entry)) (now (ratios .entry)) ⌝ }
 {
     let mut rows = [Prepared::blank(); ROWS];
     for j in 0..ROWS {
@@ -181,16 +184,21 @@ fn ratio_fault(p: Part, ratio: u32) -> bool
     }
 }
 
-pub(crate) fn ratio_rule(r: Record, ratios: &[u32; ROWS]) -> Answer
-    requires { ⌜ r .count ≤ rowLimit ⌝ }
-    ensures { λ a. ⌜ handed a ≡ numbered 9 (lowest (λ j. ratioFault (partAt r j) (getD (now (ratios .entry)) j 0)) (r .count)) ⌝ }
+pub(crate) fn ratio_rule(
+    count: u8,
+    cells: &Cells,
+    microvolts: &Microvolts,
+    values: &Values,
+    ratios: &[u32; ROWS],
+) -> Answer
+    requires { ⌜ count ≤ rowLimit ⌝ }
+    ensures { λ a. ⌜ handed a ≡ numbered 9 (lowest (λ j. ratioFault
+        (partIn (now (cells .entry)) (now (microvolts .entry)) (now (values .entry)) j) (getD (now (ratios .entry)) j 0)) count) ⌝ }
 {
-    let rows = r.rows;
-    let count = r.count;
     for j in 0..count {
-        let row = rows[j as usize];
-        let part = row.part;
-        if ratio_fault(part, ratios[j as usize]) {
+        let at = j as usize;
+        let part = part_in(cells[at], microvolts[at], values[at]);
+        if ratio_fault(part, ratios[at]) {
             return Answer::Ratio(j);
         }
     }

@@ -2,20 +2,25 @@
 // tap is a leaf or the top.
 
 ghost use mathlib.Core.Path.{_≡_};
-ghost use Prim.Native.Nat.{ℕ, _+_, _<_, _≤_, min};
+ghost use Prim.Native.Nat.{ℕ, _+_, _-_, _<_, _≤_, min};
+ghost use mathlib.Core.Bool.{not, _&&_, _||_};
+ghost use lib.Dec.{eqb};
 ghost use lib.ListN.{getD};
-ghost use Rattle.circuit.specs.Counting.{one};
-ghost use Rattle.circuit.specs.Numbers.{handed};
-ghost use Rattle.circuit.specs.Record.{rowLimit, partAt, notLower, childrenRule, uses as usesOf, usedOnceRule, inputs as inputsOf, inputAndTapRule};
+ghost use Rattle.circuit.specs.Counting.{one, total};
+ghost use Rattle.circuit.specs.Numbers.{handed, unless, lowest};
+ghost use Rattle.circuit.specs.Record.{rowLimit, top, noRow, isLeaf, isInput, notLower, names};
 ghost use Rattle.laws.specs.Numbered.{numbered};
-ghost use Rattle.laws.proofs.Formed.{Formed};
+ghost use Rattle.sheet.specs.Sheet.{partIn};
 ghost use Rattle.setup.specs.Uses.{useMore, usesBy};
 use circuit::Answer;
 use circuit::NO_ROW;
 use circuit::Part;
 use circuit::ROWS;
-use circuit::Record;
 use circuit::TOP;
+use sheet::Cells;
+use sheet::Microvolts;
+use sheet::Values;
+use sheet::part_in;
 
 // An adaptor whose children are not both lower.
 fn not_lower(j: u8, p: Part) -> bool
@@ -28,15 +33,19 @@ fn not_lower(j: u8, p: Part) -> bool
     }
 }
 
-pub(crate) fn children_rule(r: Record) -> Answer
-    requires { ⌜ Formed r ⌝ }
-    ensures { λ a. ⌜ handed a ≡ numbered 6 (childrenRule r) ⌝ }
+pub(crate) fn children_rule(
+    count: u8,
+    cells: &Cells,
+    microvolts: &Microvolts,
+    values: &Values,
+) -> Answer
+    requires { ⌜ count ≤ rowLimit ⌝ }
+    ensures { λ a. ⌜ handed a ≡ numbered 6 (lowest (λ j. notLower j (partIn (now (cells .entry)) (now (microvolts .entry)) (now (values .entry)) j))
+        count) ⌝ }
 {
-    let rows = r.rows;
-    let count = r.count;
     for j in 0..count {
-        let row = rows[j as usize];
-        let part = row.part;
+        let at = j as usize;
+        let part = part_in(cells[at], microvolts[at], values[at]);
         if not_lower(j, part) {
             return Answer::Tree(j);
         }
@@ -76,28 +85,32 @@ fn use_children(uses: &mut [u8; ROWS], p: Part)
 }
 
 // How often each row is a child, by one look at each row.
-fn uses(r: Record) -> [u8; ROWS]
-    requires { ⌜ r .count ≤ rowLimit ⌝ }
-    ensures { λ us. ⌜ ((k : ℕ) → k < rowLimit → getD us k 0 ≡ min 2 (usesOf r k)) ⌝ }
+fn uses(count: usize, cells: &Cells, microvolts: &Microvolts, values: &Values) -> [u8; ROWS]
+    requires { ⌜ count ≤ rowLimit ⌝ }
+    ensures { λ us. ⌜ ((k : ℕ) → k < rowLimit → getD us k 0 ≡ min 2 (total (λ j. names
+        (partIn (now (cells .entry)) (now (microvolts .entry)) (now (values .entry)) j) k) count)) ⌝ }
 {
-    let rows = r.rows;
-    let count = r.count as usize;
     let mut uses = [0; ROWS];
     for j in 0..count {
-        let row = rows[j];
-        let part = row.part;
+        let part = part_in(cells[j], microvolts[j], values[j]);
         use_children(&mut uses, part);
     }
     uses
 }
 
 // The last row is nobody's child.
-pub(crate) fn used_once_rule(r: Record) -> Answer
-    requires { ⌜ Formed r ⌝ }
-    ensures { λ a. ⌜ handed a ≡ numbered 6 (usedOnceRule r) ⌝ }
+pub(crate) fn used_once_rule(
+    count: u8,
+    cells: &Cells,
+    microvolts: &Microvolts,
+    values: &Values,
+) -> Answer
+    requires { ⌜ (0 < count) × (count ≤ rowLimit) ⌝ }
+    ensures { λ a. ⌜ handed a ≡ numbered 6 (lowest (λ k. not (eqb (total (λ j. names
+        (partIn (now (cells .entry)) (now (microvolts .entry)) (now (values .entry)) j) k) count) 1)) (count - 1)) ⌝ }
 {
-    let uses = uses(r);
-    let last = r.count - 1;
+    let uses = uses(count as usize, cells, microvolts, values);
+    let last = count - 1;
     for k in 0..last {
         if uses[k as usize] != 1 {
             return Answer::Tree(k);
@@ -112,40 +125,44 @@ fn one_if(b: bool) -> usize
     if b { 1 } else { 0 }
 }
 
-fn inputs(r: Record) -> usize
-    requires { ⌜ r .count ≤ rowLimit ⌝ }
-    ensures { λ n. ⌜ n ≡ inputsOf r ⌝ }
+fn inputs(count: usize, cells: &Cells, microvolts: &Microvolts, values: &Values) -> usize
+    requires { ⌜ count ≤ rowLimit ⌝ }
+    ensures { λ n. ⌜ n ≡ total (λ j. one (isInput (partIn (now (cells .entry)) (now (microvolts .entry)) (now (values .entry)) j))) count ⌝ }
 {
-    let rows = r.rows;
-    let count = r.count as usize;
     let mut n: usize = 0;
     for j in 0..count {
-        let row = rows[j];
-        let part = row.part;
+        let part = part_in(cells[j], microvolts[j], values[j]);
         n = n + one_if(part.is_input());
     }
     n
 }
 
 // A row's part; past the last row there are blank ones.
-fn part_at(r: Record, j: usize) -> Part
-    ensures { λ p. ⌜ p ≡ partAt r j ⌝ }
+fn part_at(cells: &Cells, microvolts: &Microvolts, values: &Values, j: usize) -> Part
+    ensures { λ p. ⌜ p ≡ partIn (now (cells .entry)) (now (microvolts .entry)) (now (values .entry)) j ⌝ }
 {
-    let rows = r.rows;
     if j < ROWS {
-        let row = rows[j];
-        row.part
+        part_in(cells[j], microvolts[j], values[j])
     } else {
         Part::Blank
     }
 }
 
-pub(crate) fn input_and_tap_rule(r: Record) -> Answer
-    requires { ⌜ Formed r ⌝ }
-    ensures { λ a. ⌜ handed a ≡ numbered 6 (inputAndTapRule r) ⌝ }
+pub(crate) fn input_and_tap_rule(
+    count: u8,
+    tap: u8,
+    cells: &Cells,
+    microvolts: &Microvolts,
+    values: &Values,
+) -> Answer
+    requires { ⌜ count ≤ rowLimit ⌝ }
+    ensures { λ a. ⌜ handed a ≡ numbered 6 (unless
+        (eqb (total (λ j. one (isInput (partIn (now (cells .entry)) (now (microvolts .entry)) (now (values .entry)) j)))
+        count) 1 && (eqb tap top || isLeaf (partIn (now (cells .entry)) (now (microvolts .entry)) (now (values .entry)) tap))) noRow) ⌝ }
 {
-    let tap = r.tap;
-    if (inputs(r) == 1) & ((tap == TOP) | part_at(r, tap as usize).is_leaf()) {
+    let inputs = inputs(count as usize, cells, microvolts, values);
+    let tapped = part_at(cells, microvolts, values, tap as usize);
+    if (inputs == 1) & ((tap == TOP) | tapped.is_leaf()) {
         Answer::Done
     } else {
         Answer::Tree(NO_ROW)

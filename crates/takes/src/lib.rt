@@ -99,8 +99,7 @@ pub fn feed(r: Record, carried: Carried, bytes: &[u8], out: &mut [u8]) -> Feed
     // The circuit is set up once: here, or for the run.
     if refusal.number() != 0 {
         let state = carried.state;
-        let set = charge::check(r, state);
-        let circuit = set.answer;
+        let circuit = charge::answer(r, state);
         return turned_away(circuit.or(refusal), carried);
     }
     work(r, carried, bytes, out)
@@ -111,8 +110,7 @@ pub fn finish(r: Record, carried: Carried) -> Answer
     ensures { λ a. ⌜ Ends (takeOf r carried) a ⌝ }
 {
     let state = carried.state;
-    let set = charge::check(r, state);
-    let circuit = set.answer;
+    let circuit = charge::answer(r, state);
     let own = own_rules(carried);
     let end = end_rule(carried);
     circuit.or(own.or(end))

@@ -1,44 +1,29 @@
--- `run_raw` meets its contract: a call that 4 to 12 refuse is turned away, and any other is played.
-use Prim.Native.Nat.{_<_}
-use native.Mathlib.Omega.{arith}
-use mathlib.Core.Path.{_≡_, refl, sym, _∙_}
-use mathlib.Core.List.{_++_}
+-- `run_raw` meets its contract: what was laid out is the record.
 use borrow.Author.Needs.{needs}
-use Rattle.circuit.specs.Numbers.{handed, judge}
-use Rattle.circuit.specs.Run.{chargedRules}
 use Rattle.laws.proofs.Sizes.{sized}
-use Rattle.engine.specs.Raw.{RawCall, rawCall, rawCharged, rawTurnedAway, ranRaw}
-use Rattle.engine.proofs.Loading.{playable}
-use Rattle.engine.proofs.RawRuns.{ran-raw-refused}
+use Rattle.sheet.proofs.Back.{record-back}
+use Rattle.engine.proofs.Calling.{runs-raw-of}
 use Rattle.engine.proofs.run_raw.Statement.{statement}
 use Rattle.engine.proofs.run_raw.Tie as tie
 
-abbrev called : tie.Start → RawCall
-called c = rawCall (c .args .r) (c .args .state .waves) (c .args .left .now ++ c .args .more .now) (c .args .out .now)
+-- ---- places of the walk: where the record is laid out, and where the function begins
 
-abbrev entered : tie.After-check → tie.Start
-entered c = c .before .before .before .before
+abbrev laid : tie.After-values2 → tie.After-lay
+laid c = c .before .before .before
+
+abbrev entered : tie.After-values → tie.After-slice-known
+entered c = c .before .before .before
+
+abbrev start : tie.After-slice-known → tie.Start
+start c = c .before .before .before
 
 returns : tie.Need-returns
 returns c =
-    let checked = c .before .before .before in
-    let k = called (entered checked) in
-    let told = c .turned-away .ensures in
-    let j = checked .check .ensures .number in
-    let l : 0 < handed (checked .check .result .answer) .number = omega (arith, c .before .before .number .ensures, c .before .if1 .taken) in
-    let e : ranRaw k ≡ rawTurnedAway k (judge chargedRules (rawCharged k)) = ran-raw-refused k (rw j at l) in
-    record { number = rw (told, e) j; samples = rw (told, e) refl; waves = rw (told, e) refl; room = rw e refl }
-
-play-raw-requires : tie.Need-play-raw-requires
-play-raw-requires c κs =
-    let passed = c .before .before in
-    let checked = passed .before .before in
-    let s = entered checked in
-    playable (rawCharged (called s)) _ (sized (s .args .r) _ (s .good .0)) (checked .check .ensures .rows)
-    (rw (← checked .check .ensures .number) (sym (passed .before .number .ensures) ∙ passed .if1 .left))
+    let ran = c .before .before in
+    let sheet = laid (ran .before .before .before .before) in
+    let given = start (entered (sheet .before .before .before)) in
+    let back = record-back (sized (given .args .r) _ (given .good .0)) (sheet .lay .ensures) in
+    runs-raw-of back (ran .run-raw-sheet .ensures)
 
 pub run-raw-spec : {M : Type 1} → statement M
-run-raw-spec =
-    tie.close
-    (tie.spec (λ c κs. search needs) (λ c κs. search needs) (λ c κs. search needs) returns play-raw-requires (λ c. search needs)
-    (λ c. search needs))
+run-raw-spec = tie.close (tie.spec (λ c κs. search needs) (λ c κs. search needs) (λ c. search needs) returns)

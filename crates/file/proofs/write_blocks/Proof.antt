@@ -19,28 +19,20 @@ returns c =
     let rows = second .before in
     let first = rows .before .before .before .before in
     let top = first .before in
-    let start = top .before .before .before .before .before in
+    let copied = top .before .before in
+    let start = copied .before .before .before in
     let r = start .args .r in
     let roomy = blocks-roomy r (sized r _ (start .good .0)) in
     let h = heading r in
     let ws = concat (map rowBytes (r .rows)) in
     let cs = concat (map columnFields (r .columns)) in
-    let out = start .args .out .now in
-    let one = file-more [] 0 h (top .heading-block .result) out (first .write .last .0) (file-none out) refl (roomy .0) (top .heading-block .ensures) (first .write .ensures) in
-    let two = file-more (h ∷ []) 1 ws (rows .row-block .result) (first .write .last .0) (second .write2 .last .0) one refl (roomy .1 .0) (rows .row-block .ensures) (second .write2 .ensures) in
-    let all =
-    file-more (h ∷ ws ∷ []) 2 cs (columns .column-block .result) (second .write2 .last .0) (third .write3 .last .0) two refl (roomy .1 .1 .0) (columns .column-block .ensures) (third .write3 .ensures) in
+    let one = file-more [] 0 h (file-none (start .args .out .now)) refl (roomy .0) (top .heading-block .ensures) (first .write .ensures) in
+    let two = file-more (h ∷ []) 1 ws one refl (roomy .1 .0) (rows .row-block .ensures) (second .write2 .ensures) in
+    let all = file-more (h ∷ ws ∷ []) 2 cs two refl (roomy .1 .1 .0) (columns .column-block .ensures) (third .write3 .ensures) in
     entered-whole all (start .pre)
 
 pub write-blocks-spec : {M : Type 1} → statement M
 write-blocks-spec =
     tie.close
-    (tie.spec
-    (λ c κs. search needs)
-    (λ c κs. search needs)
-    (λ c κs. search needs)
-    (λ c κs. search needs)
-    (λ c κs. search needs)
-    (λ c κs. search needs)
-    (λ c. search needs)
-    returns)
+    (tie.spec (λ c κs. search needs) (λ c κs. search needs) (λ c κs. search needs) (λ c κs. search needs) (λ c κs. search needs)
+    (λ c κs. search needs) (λ c. search needs) returns)

@@ -10,6 +10,7 @@ use Rattle.circuit.specs.Record.{lastRow}
 use Rattle.circuit.specs.SetUp.{fits, portResistanceRule, ratioRule, curveResistanceRule, portRules}
 use Rattle.laws.specs.Numbered.{numbered}
 use Rattle.laws.proofs.Chain.{first-judges, last-judges}
+use Rattle.sheet.specs.Sheet.{rowsIn, columnsIn, recordIn}
 use Rattle.setup.proofs.Rows.{resistance-at, resistance-rule, ratio-rule}
 use Rattle.setup.proofs.port_answer.Statement.{statement}
 use Rattle.setup.proofs.port_answer.Tie as tie
@@ -24,13 +25,15 @@ returns c =
     let rated = drawn .before in
     let ranged = rated .before in
     let start = ranged .before .before .before in
-    let r = start .args .r in
+    let given = start .args in
+    let rows = rowsIn (given .cells .now) (given .microvolts .now) (given .values .now) in
+    let r = recordIn (given .h) rows (columnsIn (given .xs .now) (given .ys .now)) in
     let rooted = start .pre .0 in
     let filled = start .pre .1 in
     let top = resistance-at r rooted _ _ filled (r .count - 1) (omega (arith, rooted .formed .short)) in
     let same = ap (λ (R : Float). numbered 11 (unless (fits (r .resistance) R) 0)) top in
     let fit = last-judges 11 curveResistanceRule r _ (fitted .curve-resistance-rule .ensures ∙ same) in
-    let curve = ap handed (last .or .ensures) ∙ first-judges 9 columnRule _ r _ _ (drawn .column-rule .ensures) fit in
+    let curve = ap handed (last .or .ensures) ∙ first-judges 9 columnRule _ r _ _ (drawn .column-rule .ensures rows) fit in
     let rates = rated .ratio-rule .ensures ∙ ap (numbered 9) (ratio-rule r rooted _ _ filled) in
     let ratio = ap handed (second .or2 .ensures) ∙ first-judges 8 ratioRule _ r _ _ rates curve in
     let ranges = ranged .resistance-rule .ensures ∙ ap (numbered 8) (resistance-rule r rooted _ _ filled) in

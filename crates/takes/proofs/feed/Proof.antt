@@ -23,7 +23,7 @@ returns c =
     let asked = then .before .before in
     let a = start asked .args in
     let told = feed-decided (a .r) (a .carried) (a .bytes .now) (a .out .now) (left-sized (a .carried) _ (start asked .good .1 .0)) _ _ _ _ _
-    (both .or2 .ensures) (asked .or .ensures) (check .check .ensures .number) (own asked .own-rules .ensures) (asked .before .room-rule .ensures) in
+    (both .or2 .ensures) (asked .or .ensures) (check .answer .ensures) (own asked .own-rules .ensures) (asked .before .room-rule .ensures) in
     feeds-refused _ _ _ _ (c .turned-away .ensures)
     (fed-kept _ _ told (λ z. then .if1 .taken (then .before .number .ensures ∙ first-zero _ _ _ (both .or2 .ensures) z .1)))
 

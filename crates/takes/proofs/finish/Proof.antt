@@ -10,7 +10,7 @@ returns c =
     let end = later .before in
     let own = end .before in
     record {
-      number = end-decided _ _ _ _ _ _ (c .or2 .ensures) (later .or .ensures) (own .before .check .ensures .number) (own .own-rules .ensures) (end .end-rule .ensures);
+      number = end-decided _ _ _ _ _ _ (c .or2 .ensures) (later .or .ensures) (own .before .answer .ensures) (own .own-rules .ensures) (end .end-rule .ensures);
     }
 
 pub finish-spec : {M : Type 1} → statement M

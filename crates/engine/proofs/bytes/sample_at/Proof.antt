@@ -2,12 +2,11 @@
 use Prim.Native.Nat.{_-_, _*_}
 use native.Mathlib.Omega.{arith}
 use mathlib.Core.Path.{_∙_}
-use mathlib.Core.List.{_++_}
-use lib.ListN.{length, length-append}
+use lib.ListN.{length}
 use mir.Facts.{toZ-ofZ}
 use borrow.Author.Needs.{needs}
 use Rattle.circuit.specs.Take.{sampleLength}
-use Rattle.engine.proofs.RawBytes.{three-from, sample-after}
+use Rattle.engine.proofs.RawBytes.{sample-after, sample-across}
 use Rattle.engine.proofs.bytes.sample_at.Statement.{statement}
 use Rattle.engine.proofs.bytes.sample_at.Tie as tie
 
@@ -24,11 +23,11 @@ returns-2 c =
     let second = third .before in
     let first = second .before in
     let crosses = first .before .before in
-    let a = crosses .before .before .before .args in
-    let bytes = three-from (a .left .now ++ a .more .now) (sampleLength * a .i) (rw length-append (omega arith)) in
+    let start = crosses .before .before .before in
+    let a = start .args in
     toZ-ofZ (record { sfits = c .sample-of .ok })
     ∙ c .sample-of .ensures
-    ∙ rw (first .byte-at .ensures, second .byte-at2 .ensures, third .byte-at3 .ensures, bytes)
+    ∙ sample-across (a .left .now) (a .more .now) (a .i) (start .pre) (first .byte-at .ensures) (second .byte-at2 .ensures) (third .byte-at3 .ensures)
 
 returns-3 : tie.Need-returns-3
 returns-3 c =

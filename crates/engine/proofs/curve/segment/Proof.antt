@@ -1,9 +1,10 @@
--- `curve::segment` walks to the first edge above the wave. The loop's invariant: the edge before n is not above it, so that n is no further than
--- the last column.
-use Prim.Native.Nat.{ℕ, suc, _-_, _<_}
+-- `curve::segment` walks to the first edge above the wave. The loop's invariant: the edges before n are not above it, so that n is no further
+-- than the last column.
+use Prim.Native.Nat.{ℕ, _-_, _<_}
 use native.Mathlib.Omega.{arith}
 use mathlib.Core.Path.{_≡_}
 use mathlib.Core.List.{[]}
+use borrow.Author.Count.{below-none, below-more}
 use borrow.Author.Needs.{needs}
 use lib.ListN.{getD}
 use lib.IntN.{ℤ}
@@ -13,12 +14,12 @@ use mir.Val.{toZ, ofZ}
 use Rattle.whole.specs.Order.{leZ-true, leZ-false}
 use Rattle.engine.specs.Curve.{edgeOf, lineLimit}
 use Rattle.engine.proofs.Limits.{limit-reads}
-use Rattle.engine.proofs.Lines.{edge-passed, passed-most, passed-count}
+use Rattle.engine.proofs.Lines.{passed-most, passed-count}
 use Rattle.engine.proofs.curve.segment.Statement.{statement}
 use Rattle.engine.proofs.curve.segment.Tie as tie
 
 abbrev Inv-loop : tie.InvT-loop
-Inv-loop lines wave n₀ n = (n < lineLimit) × ((k : ℕ) → n ≡ suc k → edgeOf (getD lines k []) ≤ℤ toZ w64 wave)
+Inv-loop lines wave n₀ n = (n < lineLimit) × ((k : ℕ) → k < n → edgeOf (getD lines k []) ≤ℤ toZ w64 wave)
 
 abbrev μ-loop : tie.MeasureT-loop
 μ-loop lines wave n₀ n = lineLimit - n
@@ -38,21 +39,21 @@ loop-again c =
     let at = c .before in
     let known = start at .pre in
     let wave = limit-reads (known .1) in
-    let h : edge at ≤ℤ start at .args .wave = leZ-true _ _ (rw (edge-reads at, wave) at (c .if1 .taken)) in
-    let l = edge-passed (known .0 .1) (known .1) _ (at .before .loop .inv .0) h in
-    (omega (arith, known .0 .1 .narrow), λ k e. let same : k ≡ at .before .loop .n = omega arith in rw (same, wave) h)
+    let a = start at .args in
+    let h : edge at ≤ℤ a .wave = leZ-true _ _ (rw (edge-reads at, wave) at (c .if1 .taken)) in
+    let left = below-more (λ k. edgeOf (getD (a .lines .now) k []) ≤ℤ a .wave) _ (rw wave at (at .before .loop .inv .1)) h in
+    (omega (arith, passed-most (known .0 .1) (known .1) _ left, known .0 .1 .narrow), rw wave left)
 
 returns : tie.Need-returns Inv-loop μ-loop
 returns c =
     let at = c .before in
     let wave = start at .pre .1 in
-    let few = at .before .loop .inv .0 in
     let left = rw (limit-reads wave) at (at .before .loop .inv .1) in
     let right = leZ-false _ _ (rw (edge-reads at, limit-reads wave) at (c .if1 .left)) in
-    λ r d. (passed-most d wave _ few left, passed-count d wave _ few left right)
+    λ r d. (passed-most d wave _ left, passed-count d wave _ left right)
 
 pub segment-spec : {M : Type 1} → statement M
 segment-spec =
     tie.close
-    (tie.spec Inv-loop μ-loop (λ c. (omega arith, λ k e. absurd (omega arith))) (λ c. omega arith) (λ c. omega arith) (λ c. search needs)
+    (tie.spec Inv-loop μ-loop (λ c. (omega arith, below-none _)) (λ c. omega arith) (λ c. omega arith) (λ c. search needs)
     (λ c. omega arith) (λ c. omega arith) loop-again returns)

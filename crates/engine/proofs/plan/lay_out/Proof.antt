@@ -3,16 +3,21 @@ use Prim.Native.Nat.{_≤_}
 use native.Mathlib.Omega.{arith}
 use mathlib.Core.Path.{_≡_, refl, sym, ap, _∙_}
 use borrow.Author.Needs.{needs}
-use Rattle.circuit.specs.Record.{rowLimit}
+use Rattle.circuit.specs.Record.{rowLimit, columnLimit}
+use Rattle.circuit.specs.declared.Record.{Record}
+use Rattle.sheet.specs.Sheet.{rowsIn, columnsIn, recordIn}
 use Rattle.engine.specs.Plan.{rank, Layable, Seated}
-use Rattle.engine.proofs.Laying.{accepted, layable}
+use Rattle.engine.proofs.Laying.{seat, accepted, layable}
 use Rattle.engine.proofs.plan.lay_out.Statement.{statement}
 use Rattle.engine.proofs.plan.lay_out.Tie as tie
 
--- ---- places, each from a later one
+-- the record that the sheet stands for
+abbrev circuit : tie.Start → Record
+circuit s =
+    let a = s .args in
+    recordIn (a .h) (rowsIn (a .cells .now) (a .microvolts .now) (a .values .now)) (columnsIn (a .xs .now) (a .ys .now))
 
-abbrev at-start : tie.After-wide → tie.Start
-at-start c = c .before .before
+-- ---- places, each from a later one
 
 abbrev at-roles : tie.After-roles2 → tie.After-roles-of
 at-roles c = c .before .before .before
@@ -32,42 +37,55 @@ at-slots c = at-lent (at-joints c .before) .before
 -- ---- what is known there
 
 short : (c : tie.After-wide) → c .wide .result ≤ rowLimit
-short c = omega (arith, c .wide .ensures, accepted (at-start c .pre .0) .short)
+short c = omega (arith, c .wide .ensures, accepted (c .before .pre .0) .short)
 
-count : (c : tie.After-wide) → at-start c .args .r .count ≡ c .wide .result
+count : (c : tie.After-wide) → circuit (c .before) .count ≡ c .wide .result
 count c = sym (c .wide .ensures)
 
 reactive : (c : tie.After-roles2)
-    → c .before .reactive-leaves .result ≡ rank (at-start (at-roles c .before) .args .r .rows) 0 (at-roles c .before .wide .result)
+    → c .before .reactive-leaves .result ≡ rank (circuit (at-roles c .before .before) .rows) 0 (at-roles c .before .wide .result)
 reactive c = c .before .reactive-leaves .ensures _ (at-roles c .roles-of .ensures)
 
-laid : (c : tie.After-slots-of) → Layable (at-start (at-count c) .args .r) (at-start (at-count c) .args .prepared) (c .slots-of .result)
-laid c =
-    let slots = c .slots-of .ensures _ (at-roles (c .before) .roles-of .ensures) (reactive (c .before)) in
-    layable (at-start (at-count c) .pre .0) (rw (← count (at-count c)) at slots)
+module _ (c : tie.After-slots-of) where
+  abbrev start : tie.Start
+  start = at-count c .before
 
-seated : (c : tie.After-slots-of)
-    → Seated (at-start (at-count c) .args .r .rows) (at-count c .wide .result) (c .slots-of .result) (at-start (at-count c) .args .r)
-seated c = record { prepared = _; all = refl; many = count (at-count c); layable = laid c }
+  laid : Layable (circuit start) (start .args .prepared .now) (c .slots-of .result)
+  laid =
+      layable (start .pre .0) (count (at-count c)) (c .slots-of .ensures _ (at-roles (c .before) .roles-of .ensures) (reactive (c .before)))
+
+  seated : Seated (circuit start .rows) (at-count c .wide .result) (c .slots-of .result) (circuit start)
+  seated = seat (at-count c .wide .ensures) laid
+
+narrow : (c : tie.After-wide2) → c .wide2 .result ≤ columnLimit
+narrow c = omega (arith, c .wide2 .ensures, laid (at-slots (c .before)) .accepted .wide)
 
 slots-of-requires : tie.Need-slots-of-requires
 slots-of-requires c κs = (short (at-roles c .before), (_, at-roles c .roles-of .ensures, reactive c))
 
 lay-joints-requires : tie.Need-lay-joints-requires
-lay-joints-requires c κs = let s = at-lent c .before in ((_, refl, count (at-count s), laid s), at-start (at-count s) .pre .1)
+lay-joints-requires c κs = let s = at-lent c .before in ((circuit (start s), refl, count (at-count s), laid s), start s .pre .1)
 
 turns-of-requires : tie.Need-turns-of-requires
-turns-of-requires c κs = let s = at-lent (c .before .before) .before in (_, seated s)
+turns-of-requires c κs = let s = at-lent (c .before .before) .before in (circuit (start s), seated s)
+
+lay-lines-requires : tie.Need-lay-lines-requires
+lay-lines-requires c κs =
+    let w = c .before in
+    let s = at-slots (w .before) in
+    ((circuit (start s), refl, sym (w .wide2 .ensures), laid s .accepted .drawn, narrow w), start s .pre .2)
 
 returns : tie.Need-returns
 returns c =
-    let t = c .before .before in
+    let lines = c .before .before in
+    let w = lines .before .before in
+    let t = w .before in
     let s = at-slots t in
     let h = laid s in
-    let r = at-start (at-count s) .args .r in
+    let r = circuit (start s) in
     let same = count (at-count s) in
-    let shape = c .shape-of .ensures in (
-      λ lines drawn. record {
+    let shape = c .shape-of .ensures r _ refl h in (
+      record {
         accepted = h .accepted;
         slotted = h .slotted;
         adaptors = shape .0;
@@ -76,7 +94,7 @@ returns c =
         mirror = shape .3;
         staged = at-joints t .lay-joints .ensures r refl same h;
         turn = λ j l. t .turns-of .ensures r (seated s) j (omega arith);
-        drawn = drawn;
+        drawn = lines .lay-lines .ensures r refl (sym (w .wide2 .ensures)) (h .accepted .drawn) (narrow w);
       },
       h,
     )
@@ -85,4 +103,4 @@ pub lay-out-spec : {M : Type 1} → statement M
 lay-out-spec =
     tie.close
     (tie.spec (λ c κs. search needs) (λ c κs. short c) (λ c κs. short (c .before .before)) slots-of-requires lay-joints-requires
-    turns-of-requires (λ c κs. (_, laid (at-slots (c .before)))) returns)
+    turns-of-requires (λ c κs. search needs) lay-lines-requires (λ c κs. (_, _, refl, laid (at-slots (c .before .before .before .before)))) returns)

@@ -2,39 +2,41 @@
 use Prim.Native.Nat.{_-_, _≤_}
 use native.Mathlib.Omega.{arith}
 use borrow.Author.Count.{below-none}
-use mathlib.Core.Path.{_≡_, refl, _∙_}
+use mathlib.Core.Path.{_≡_, refl, ap, _∙_}
 use lib.ListN.{length, length-set}
-use Rattle.circuit.specs.Record.{rowLimit, rowIn}
+use Rattle.circuit.specs.Record.{rowLimit}
+use Rattle.sheet.specs.Sheet.{rowsIn, partIn}
 use Rattle.engine.specs.Plan.{roleOf, Roled}
 use Rattle.engine.proofs.Fill.{filled-more}
+use Rattle.sheet.proofs.Back.{part-read}
 use Rattle.engine.proofs.plan.roles_of.Statement.{statement}
 use Rattle.engine.proofs.plan.roles_of.Tie as tie
 
 abbrev Inv-loop : tie.InvT-loop
-Inv-loop count rows roles₀ i₀ roles i = (i ≤ count) × (length roles ≡ rowLimit) × Roled rows i roles
+Inv-loop count cells microvolts values roles₀ i₀ roles i = (i ≤ count) × (length roles ≡ rowLimit) × Roled (rowsIn cells microvolts values) i roles
 
 abbrev μ-loop : tie.MeasureT-loop
-μ-loop count rows roles₀ i₀ roles i = count - i
-
-loop-holds : tie.Need-loop-holds Inv-loop μ-loop
-loop-holds c = (omega arith, refl, below-none _)
+μ-loop count cells microvolts values roles₀ i₀ roles i = count - i
 
 loop-again : tie.Need-loop-again Inv-loop μ-loop
 loop-again c =
-    let at-loop = c .before .before .before in
+    let at-part = c .before in
+    let read = at-part .before .before in
+    let at-loop = read .before .before .before in
     let l = at-loop .loop in
-    let v = c .role-of .result in
-    let rows = at-loop .before .args .t1 in (
+    let a = at-loop .before .args in
+    let fits = read .part-in-arg2 .given in
+    let part = part-read (a .cells .now) (a .microvolts .now) (a .values .now) (l .i) (omega arith) (record { sfits = fits }) (at-part .part-in .ensures) in
+    let v = c .role-of .result in (
       omega arith,
       length-set (l .roles) (l .i) v ∙ l .inv .1,
-      filled-more (λ j x. x ≡ roleOf (rowIn rows j .part)) 0 (l .roles) (l .i) v (omega (arith, l .inv .1)) (l .inv .2) (c .role-of .ensures),
+      filled-more (λ j x. x ≡ roleOf (partIn (a .cells .now) (a .microvolts .now) (a .values .now) j)) 0 (l .roles) (l .i) v
+          (omega (arith, l .inv .1)) (l .inv .2) (c .role-of .ensures ∙ ap roleOf part),
     )
-
-returns : tie.Need-returns Inv-loop μ-loop
-returns c = λ j h. c .before .loop .inv .2 j (omega arith)
 
 pub roles-of-spec : {M : Type 1} → statement M
 roles-of-spec =
     tie.close
-    (tie.spec Inv-loop μ-loop loop-holds (λ c. omega arith) (λ c. omega arith) (λ c κs. tt) (λ c. omega arith) (λ c. omega arith)
-    (λ c. omega arith) loop-again returns)
+    (tie.spec Inv-loop μ-loop (λ c. (omega arith, refl, below-none _)) (λ c. omega arith) (λ c. omega arith) (λ c. omega arith)
+    (λ c. omega arith) (λ c. omega arith) (λ c. omega arith) (λ c κs. tt) (λ c κs. tt) (λ c. omega arith) (λ c. omega arith)
+    (λ c. omega arith) loop-again (λ c j h. c .before .loop .inv .2 j (omega arith)))

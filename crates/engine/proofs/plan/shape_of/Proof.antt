@@ -1,42 +1,50 @@
 -- `shape_of` meets its contract: 2N + 1 rows have N adaptors, and the tap's row is in use.
 use Prim.Native.Nat.{_-_}
 use native.Mathlib.Omega.{arith}
-use mathlib.Core.Path.{_≡_, refl, ap, _∙_}
+use mathlib.Core.Path.{_≡_, refl, ap, _∙_, subst}
 use mathlib.Core.Bool.{cond}
 use lib.Dec.{eqb}
 use lib.ListN.{getD}
 use borrow.Author.Needs.{needs}
 use Rattle.circuit.specs.Record.{top}
+use Rattle.circuit.specs.declared.Record.{Record}
+use Rattle.sheet.specs.Sheet.{headingOf}
+use Rattle.sheet.specs.declared.Heading.{Heading}
+use Rattle.engine.specs.Curve.{Mirrors}
 use Rattle.engine.specs.Plan.{tapRow}
 use Rattle.engine.proofs.Laying.{tap-inside}
 use Rattle.engine.proofs.Limits.{returned}
 use Rattle.engine.proofs.plan.shape_of.Statement.{statement}
 use Rattle.engine.proofs.plan.shape_of.Tie as tie
 
--- the row that is read
-read : (c : tie.After-tap-row) → c .tap-row .result ≡ tapRow (c .before .before .args .r)
-read c = let r = c .before .before .args .r in c .tap-row .ensures ∙ ap (λ n. cond (eqb (r .tap) top) (n - 1) (r .tap)) (c .before .wide .ensures)
+-- how many rows a record with the heading has, and which is read
+count : (c : tie.After-wide) (r : Record) → c .before .args .h ≡ headingOf r → c .wide .result ≡ r .count
+count c r e = c .wide .ensures ∙ ap (λ (h : Heading). h .count) e
+
+read : (c : tie.After-tap-row) (r : Record) → c .before .before .args .h ≡ headingOf r → c .tap-row .result ≡ tapRow r
+read c r e =
+    let tap = c .before .before .args .h .tap in
+    c .tap-row .ensures ∙ ap (λ n. cond (eqb tap top) (n - 1) tap) (count (c .before) r e)
+    ∙ ap (λ (h : Heading). cond (eqb (h .tap) top) (r .count - 1) (h .tap)) e
 
 element-copy-out-wide : tie.Need-element-copy-out-wide
 element-copy-out-wide c =
-    let s = c .before .before in
-    let acc = s .pre .1 .accepted in
-    omega (arith, read c, tap-inside (s .args .r) acc, acc .short)
+    let p = c .before .before .pre in
+    let acc = p .3 .accepted in
+    omega (arith, read c (p .0) (p .2), tap-inside (p .0) acc, acc .short)
 
 returns : tie.Need-returns
-returns c =
+returns c r prepared e h =
     let at = c .before .before .before in
-    let s = at .before .before in
-    let r = s .args .r in
-    let h = s .pre .1 in (
-      omega (arith, at .before .wide .ensures, h .accepted .odd),
+    let slots = at .before .before .args .slots .now in (
+      omega (arith, count (at .before) r e, h .accepted .odd),
       refl,
-      c .before .wide2 .ensures ∙ ap (λ j. getD (s .args .slots .now) j 0) (read at) ∙ h .slot (tapRow r) (tap-inside r (h .accepted)),
-      rw (returned _ (c .mirror .ok)) (c .mirror .ensures),
+      c .before .wide2 .ensures ∙ ap (λ j. getD slots j 0) (read at r e) ∙ h .slot (tapRow r) (tap-inside r (h .accepted)),
+      rw (returned _ (c .mirror .ok)) (subst (λ (h : Heading). Mirrors (h .kind) (c .mirror .result)) e (c .mirror .ensures)),
     )
 
 pub shape-of-spec : {M : Type 1} → statement M
 shape-of-spec =
     tie.close
-    (tie.spec (λ c κs. search needs) (λ c. omega (arith, c .before .pre .1 .accepted .some)) (λ c κs. search needs) element-copy-out-wide
-    (λ c κs. search needs) (λ c κs. search needs) returns)
+    (tie.spec (λ c κs. search needs) (λ c. let p = c .before .pre in omega (arith, count c (p .0) (p .2), p .3 .accepted .some))
+    (λ c κs. search needs) element-copy-out-wide (λ c κs. search needs) (λ c κs. search needs) returns)

@@ -1,35 +1,49 @@
 -- `turns_of` meets its contract. The loop's invariant: the turns of the rows below i stand in their slots.
 use Prim.Native.Nat.{_-_, _<_, _≤_}
 use native.Mathlib.Omega.{arith}
-use mathlib.Core.Path.{_≡_, refl, _∙_}
+use mathlib.Core.Path.{_≡_, refl, ap, _∙_}
 use lib.IntN.{pos}
-use Rattle.circuit.specs.Record.{rowLimit, rowIn}
+use Rattle.circuit.specs.Record.{rowLimit}
+use Rattle.sheet.specs.Sheet.{partIn}
 use Rattle.engine.specs.Plan.{turnOf}
 use Rattle.engine.proofs.Limits.{returned}
+use Rattle.sheet.proofs.Back.{part-read}
 use Rattle.engine.proofs.Placing.{Placed, Own, laid-own, placed-start, placed-more, placed-all}
 use Rattle.engine.proofs.plan.turns_of.Statement.{statement}
 use Rattle.engine.proofs.plan.turns_of.Tie as tie
 
 abbrev Inv-loop : tie.InvT-loop
-Inv-loop count slots rows turns₀ i₀ turns i = Own slots count × (i ≤ count) × Placed (pos 0) slots (λ j. turnOf (rowIn rows j .part)) i turns
+Inv-loop count cells microvolts values slots turns₀ i₀ turns i =
+    Own slots count × (i ≤ count) × Placed (pos 0) slots (λ j. turnOf (partIn cells microvolts values j)) i turns
 
 abbrev μ-loop : tie.MeasureT-loop
-μ-loop count slots rows turns₀ i₀ turns i = count - i
+μ-loop count cells microvolts values slots turns₀ i₀ turns i = count - i
 
 loop-holds : tie.Need-loop-holds Inv-loop μ-loop
 loop-holds c = (laid-own (c .pre .1 .many) (c .pre .1 .layable), omega arith, placed-start refl)
 
-abbrev at-loop : tie.After-wide Inv-loop μ-loop → tie.At-loop Inv-loop μ-loop
-at-loop c = c .before .before .before .before
+module _ (c : tie.After-turn Inv-loop μ-loop) where
+  abbrev at-part : tie.After-part-in Inv-loop μ-loop
+  at-part = c .before .before .before
 
--- the slot written to
-low : (c : tie.After-turn Inv-loop μ-loop) → c .before .wide .result < rowLimit
-low c = let l = at-loop (c .before) .loop in rw (c .before .wide .ensures) (l .inv .0 .low (l .i) (omega arith))
+  abbrev read : tie.After-part-in-arg2 Inv-loop μ-loop
+  read = at-part .before .before
+
+  abbrev at-loop : tie.At-loop Inv-loop μ-loop
+  at-loop = read .before .before .before
+
+  -- the slot written to
+  low : c .before .wide .result < rowLimit
+  low = let l = at-loop .loop in rw (c .before .wide .ensures) (l .inv .0 .low (l .i) (omega arith))
 
 loop-again : tie.Need-loop-again Inv-loop μ-loop
 loop-again c =
-    let inv = at-loop (c .before) .loop .inv in
-    (inv .0, omega arith, placed-more (inv .0) (omega arith) (c .before .wide .ensures) (returned _ (c .turn .ok) ∙ c .turn .ensures) (inv .2))
+    let l = at-loop c .loop in
+    let a = at-loop c .before .args in
+    let fits = read c .part-in-arg2 .given in
+    let part = part-read (a .cells .now) (a .microvolts .now) (a .values .now) (l .i) (omega arith) (record { sfits = fits }) (at-part c .part-in .ensures) in
+    let value = returned _ (c .turn .ok) ∙ c .turn .ensures ∙ ap turnOf part in
+    (l .inv .0, omega arith, placed-more (l .inv .0) (omega arith) (c .before .wide .ensures) value (l .inv .2))
 
 returns : tie.Need-returns Inv-loop μ-loop
 returns c = λ r h.
@@ -40,5 +54,6 @@ returns c = λ r h.
 pub turns-of-spec : {M : Type 1} → statement M
 turns-of-spec =
     tie.close
-    (tie.spec Inv-loop μ-loop loop-holds (λ c. omega arith) (λ c. omega arith) (λ c. omega arith) (λ c κs. tt) (λ c κs. tt)
-    (λ c. omega (arith, low c)) low (λ c. omega arith) (λ c. omega arith) loop-again returns)
+    (tie.spec Inv-loop μ-loop loop-holds (λ c. omega arith) (λ c. omega arith) (λ c. omega arith) (λ c. omega arith) (λ c. omega arith)
+    (λ c. omega arith) (λ c κs. tt) (λ c. omega arith) (λ c κs. tt) (λ c κs. tt) (λ c. omega (arith, low c)) low (λ c. omega arith)
+    (λ c. omega arith) loop-again returns)

@@ -1,26 +1,29 @@
 -- `load` meets its contract. The loop's invariant: what the rows below i send stands in their slots.
 use Prim.Native.Nat.{_-_, _<_, _≤_}
 use native.Mathlib.Omega.{arith}
-use mathlib.Core.Path.{_≡_, refl, sym, _∙_}
+use mathlib.Core.Path.{_≡_, refl, sym, ap, _∙_}
 use lib.IntN.{pos}
 use lib.ListN.{length-map}
 use mir.Syntax.{w32}
 use mir.Val.{SFits}
 use mir.Facts.{toZ-ofZ}
 use Rattle.circuit.specs.Sample.{rounded, partSends, storedAt}
-use Rattle.circuit.specs.Record.{rowLimit, rowIn}
+use Rattle.circuit.specs.Record.{rowLimit}
+use Rattle.sheet.specs.Sheet.{partIn}
 use Rattle.engine.proofs.Limits.{returned}
 use Rattle.engine.proofs.Loading.{loaded}
+use Rattle.sheet.proofs.Back.{part-read}
 use Rattle.engine.proofs.Placing.{Placed, Own, laid-own, placed-start, placed-more}
 use Rattle.engine.proofs.play.load.Statement.{statement}
 use Rattle.engine.proofs.play.load.Tie as tie
 
 abbrev Inv-loop : tie.InvT-loop
-Inv-loop count slots rows state up₀ i₀ up i =
-    Own slots count × (i ≤ count) × Placed (pos 0) slots (λ j. partSends rounded (pos 0) (storedAt (state .waves) j) (rowIn rows j .part)) i up
+Inv-loop count cells microvolts values slots state up₀ i₀ up i =
+    Own slots count × (i ≤ count)
+    × Placed (pos 0) slots (λ j. partSends rounded (pos 0) (storedAt (state .waves) j) (partIn cells microvolts values j)) i up
 
 abbrev μ-loop : tie.MeasureT-loop
-μ-loop count slots rows state up₀ i₀ up i = count - i
+μ-loop count cells microvolts values slots state up₀ i₀ up i = count - i
 
 loop-holds : tie.Need-loop-holds Inv-loop μ-loop
 loop-holds c = (laid-own (c .pre .1 .many) (c .pre .1 .layable), omega arith, placed-start refl)
@@ -29,8 +32,14 @@ module _ (c : tie.After-wide Inv-loop μ-loop) where
   abbrev sent : tie.After-part-sends Inv-loop μ-loop
   sent = c .before .before .before
 
+  abbrev at-part : tie.After-part-in Inv-loop μ-loop
+  at-part = sent .before .before
+
+  abbrev read : tie.After-part-in-arg2 Inv-loop μ-loop
+  read = at-part .before .before
+
   abbrev at-loop : tie.At-loop Inv-loop μ-loop
-  at-loop = sent .before .before .before .before
+  at-loop = read .before .before .before
 
   -- the slot written to
   low : c .wide .result < rowLimit
@@ -38,12 +47,15 @@ module _ (c : tie.After-wide Inv-loop μ-loop) where
 
 loop-again : tie.Need-loop-again Inv-loop μ-loop
 loop-again c =
+    let a = at-loop c .before .args in
+    let i = at-loop c .loop .i in
     let inv = at-loop c .loop .inv in
     let call = sent c in
-    let ws = at-loop c .before .args .t2 .waves in
-    let stored : SFits w32 (storedAt ws (at-loop c .loop .i)) = record { sfits = call .before .part-sends-arg .given } in
-    let told = c .before .before .struct-told .given in
-    let wave = returned (call .part-sends .result .0) (told .0 .1) ∙ rw (toZ-ofZ stored) at (call .part-sends .ensures) in
+    let fits = read c .part-in-arg2 .given in
+    let part = part-read (a .cells .now) (a .microvolts .now) (a .values .now) i (omega arith) (record { sfits = fits }) (at-part c .part-in .ensures) in
+    let stored : SFits w32 (storedAt (a .t6 .waves) i) = record { sfits = call .before .part-sends-arg .given } in
+    let sends = rw (toZ-ofZ stored) at (call .part-sends .ensures) ∙ ap (partSends rounded (pos 0) (storedAt (a .t6 .waves) i)) part in
+    let wave = returned (call .part-sends .result .0) (c .before .before .struct-told .given .0 .1) ∙ sends in
     (inv .0, omega arith, placed-more (inv .0) (omega arith) (c .wide .ensures) wave (inv .2))
 
 -- a state that code holds has a wave for each row
@@ -52,12 +64,13 @@ returns c r seat waves =
     let turn = c .before in
     let start = turn .before in
     let done : turn .loop .i ≡ start .args .count = omega arith in
-    let held = start .good .1 .0 in
-    let size = sym (length-map (start .args .t2 .waves) (λ v. v)) ∙ held .1 .1 .0 .1 .0 .1 in
+    let held = start .good .1 .1 .1 .1 .1 .0 in
+    let size = sym (length-map (start .args .t6 .waves) (λ v. v)) ∙ held .1 .1 .0 .1 .0 .1 in
     loaded seat size waves (rw done at (turn .loop .inv .2))
 
 pub load-spec : {M : Type 1} → statement M
 load-spec =
     tie.close
-    (tie.spec Inv-loop μ-loop loop-holds (λ c. omega arith) (λ c. omega arith) (λ c. omega arith) (λ c. omega arith) (λ c κs. tt) (λ c. omega arith)
+    (tie.spec Inv-loop μ-loop loop-holds (λ c. omega arith) (λ c. omega arith) (λ c. omega arith) (λ c. omega arith) (λ c. omega arith)
+    (λ c. omega arith) (λ c κs. tt) (λ c. omega arith) (λ c. omega arith) (λ c κs. tt) (λ c. omega arith)
     (λ c κs. tt) (λ c. omega (arith, low c)) low (λ c. omega arith) (λ c. omega arith) loop-again returns)

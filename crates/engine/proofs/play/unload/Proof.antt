@@ -1,7 +1,8 @@
 -- `unload` meets its contract. The loop's invariant: the stored waves of the rows below i are taken out, and the others are 0.
 use Prim.Native.Nat.{ℕ, _-_, _≤_, _<_}
 use native.Mathlib.Omega.{arith}
-use mathlib.Core.Path.{_≡_, refl, sym, ap, _∙_}
+use mathlib.Core.Path.{_≡_, refl, sym, ap₂, _∙_}
+use mathlib.Core.List.{List}
 use lib.ListN.{length, length-set}
 use lib.Seq.{getD-set-other}
 use lib.IntN.{pos}
@@ -12,29 +13,36 @@ use Rattle.whole.specs.Order.{Abs, abs-as}
 use Rattle.whole.specs.Signed.{zfits}
 use Rattle.circuit.specs.Curve.{waveLimit}
 use Rattle.circuit.specs.Sample.{storedAt}
-use Rattle.circuit.specs.Record.{rowIn, rowLimit}
+use Rattle.circuit.specs.Record.{rowLimit}
+use Rattle.circuit.specs.declared.Row.{Row}
+use Rattle.sheet.specs.Sheet.{rowsIn}
 use Rattle.engine.specs.Plan.{partTaken}
 use Rattle.engine.proofs.Fill.{filled-more}
 use Rattle.engine.proofs.Limits.{returned, limit-reads}
 use Rattle.engine.proofs.Loading.{zeros-at, outOf, taken, all-taken}
+use Rattle.sheet.proofs.Back.{part-read}
 use Rattle.engine.proofs.Placing.{Own, laid-own}
 use Rattle.engine.proofs.play.unload.Statement.{statement}
 use Rattle.engine.proofs.play.unload.Tie as tie
 
 abbrev Inv-loop : tie.InvT-loop
-Inv-loop count slots rows up state₀ i₀ state i =
+Inv-loop count cells microvolts values slots up state₀ i₀ state i =
     Own slots count × (i ≤ count) × (length (state .waves) ≡ rowLimit)
-    × ((j : ℕ) → j < i → storedAt (state .waves) j ≡ outOf rows slots up j) × ((j : ℕ) → i ≤ j → storedAt (state .waves) j ≡ pos 0)
+    × ((j : ℕ) → j < i → storedAt (state .waves) j ≡ outOf (rowsIn cells microvolts values) slots up j)
+    × ((j : ℕ) → i ≤ j → storedAt (state .waves) j ≡ pos 0)
 
 abbrev μ-loop : tie.MeasureT-loop
-μ-loop count slots rows up state₀ i₀ state i = count - i
+μ-loop count cells microvolts values slots up state₀ i₀ state i = count - i
 
 loop-holds : tie.Need-loop-holds Inv-loop μ-loop
 loop-holds c = (laid-own (c .pre .2 .many) (c .pre .2 .layable), omega arith, refl, λ j l. absurd (omega arith), λ j l. zeros-at rowLimit j)
 
 module _ (c : tie.After-wide Inv-loop μ-loop) where
+  abbrev read : tie.After-part-in-arg2 Inv-loop μ-loop
+  read = c .before .before .before .before
+
   abbrev at-loop : tie.At-loop Inv-loop μ-loop
-  at-loop = c .before .before .before .before
+  at-loop = read .before .before .before
 
   -- the slot read
   low : c .wide .result < rowLimit
@@ -42,16 +50,26 @@ module _ (c : tie.After-wide Inv-loop μ-loop) where
 
 -- the wave taken out
 module _ (c : tie.After-part-taken Inv-loop μ-loop) where
+  abbrev at-wide : tie.After-wide Inv-loop μ-loop
+  at-wide = c .before .before
+
   abbrev turn : tie.At-loop Inv-loop μ-loop
-  turn = at-loop (c .before .before)
+  turn = at-loop at-wide
 
   abbrev start : tie.Start Inv-loop μ-loop
   start = turn .before
 
-  out : c .part-taken .result .0 ≡ outOf (start .args .t1) (start .args .slots .now) (start .args .t4) (turn .loop .i)
+  abbrev rows : List Row
+  rows = rowsIn (start .args .cells .now) (start .args .microvolts .now) (start .args .values .now)
+
+  out : c .part-taken .result .0 ≡ outOf rows (start .args .slots .now) (start .args .t6) (turn .loop .i)
   out =
-      rw (returned _ (c .before .t25 .given)) at (c .part-taken .ensures)
-      ∙ ap (λ s. partTaken (rowIn (start .args .t1) (turn .loop .i) .part) (storedAt (start .args .t4) s)) (c .before .before .wide .ensures)
+      let a = start .args in
+      let fits = read at-wide .part-in-arg2 .given in
+      let told = at-wide .before .before .part-in .ensures in
+      let part = part-read (a .cells .now) (a .microvolts .now) (a .values .now) (turn .loop .i) (omega arith) (record { sfits = fits }) told in
+      rw (returned _ (c .before .t33 .given)) at (c .part-taken .ensures)
+      ∙ ap₂ (λ p s. partTaken p (storedAt (a .t6) s)) part (at-wide .wide .ensures)
 
   limited : Abs (c .part-taken .result .0) waveLimit
   limited = let t = taken (start .pre .2) (start .pre .3) (turn .loop .i) (omega arith) in abs-as (t .1) (sym (out ∙ t .0)) (omega arith)
@@ -72,7 +90,7 @@ loop-again c =
       inv .0,
       omega arith,
       length-set ws i v ∙ inv .2,
-      filled-more (λ j z. z ≡ outOf (a .t1) (a .slots .now) (a .t4) j) (pos 0) ws i v inside (inv .3) (out at),
+      filled-more (λ j z. z ≡ outOf (rows at) (a .slots .now) (a .t6) j) (pos 0) ws i v inside (inv .3) (out at),
       λ j l. getD-set-other ws i j v (pos 0) (λ e. omega arith) ∙ inv .4 j (omega arith),
     )
 
@@ -86,6 +104,7 @@ returns c r ws seat l =
 pub unload-spec : {M : Type 1} → statement M
 unload-spec =
     tie.close
-    (tie.spec Inv-loop μ-loop loop-holds (λ c. omega arith) (λ c. omega arith) (λ c. omega arith) (λ c κs. tt) (λ c. omega (arith, low c)) low
-    (λ c κs. tt) (λ c. rw (limit-reads (limited (c .before .before))) (short (c .before .before))) (λ c. omega arith)
+    (tie.spec Inv-loop μ-loop loop-holds (λ c. omega arith) (λ c. omega arith) (λ c. omega arith) (λ c. omega arith) (λ c. omega arith)
+    (λ c. omega arith) (λ c κs. tt) (λ c. omega arith) (λ c κs. tt) (λ c. omega (arith, low c)) low (λ c κs. tt)
+    (λ c. rw (limit-reads (limited (c .before .before))) (short (c .before .before))) (λ c. omega arith)
     (λ c. omega (arith, turn (c .before .before) .loop .inv .2)) (λ c. omega arith) (λ c. omega arith) loop-again returns)

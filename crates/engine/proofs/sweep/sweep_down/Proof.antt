@@ -36,10 +36,17 @@ module _ (c : tie.After-wide2 Inv-loop μ-loop) where
   abbrev slots : Bool → ℕ
   slots side = cond side (c .before .before .wide .result) (c .wide2 .result)
 
+  -- its own slot
+  own-slot : (floor < at-loop .loop .slot) × (at-loop .loop .slot < rowLimit)
+  own-slot =
+      let s = start .pre .swept in (at-join .before .before .loop-test .taken, omega (arith, at-loop .loop .inv .0, s .all, s .slotted .few))
+
   seen : let a = start .args in let slot = at-loop .loop .slot in
       (s : Swept (jointsOf (a .joins .now) (a .firsts .now) (a .seconds .now) (a .ratios .now)) (a .n))
       → Turn (s .circuit) slot (at-join .join-of .result) slots (getD (a .ratios .now) (slot - floor - 1) (pos 0))
-  seen s = turn s (omega arith) (omega arith) (at-join .join-of .ensures) (c .before .before .wide .ensures) (c .wide2 .ensures)
+  seen s =
+      turn s (omega (arith, own-slot, at-loop .loop .inv .0)) (omega (arith, own-slot))
+      (at-join .join-of .ensures) (c .before .before .wide .ensures) (c .wide2 .ensures)
 
   inside : (side : Bool) → slots side < rowLimit
   inside = slot-inside (start .pre .swept) (seen (start .pre .swept))
@@ -66,7 +73,7 @@ loop-again c =
       omega (arith, at-loop at .loop .inv .0),
       λ p. fallen (p .swept) (seen at (p .swept)) (at-loop at .loop .inv .1 p) (p .risen)
           (λ side. cond side (b .result .first .0) (b .result .second .0)) (λ side. elim side [ true ↦ b .ensures .0 | false ↦ b .ensures .1 ])
-          (omega arith),
+          (omega (arith, own-slot at .0)),
     )
 
 pub sweep-down-spec : {M : Type 1} → statement M
@@ -77,9 +84,10 @@ sweep-down-spec =
     (λ c. omega arith) (λ c. omega arith)
     (λ c. omega (arith, inside (c .before) true)) (λ c. inside (c .before) true)
     (λ c. omega (arith, inside (c .before .before) false)) (λ c. inside (c .before .before) false)
-    (λ c. omega arith) (λ c. omega arith) (λ c. omega arith) (λ c. omega arith)
+    (λ c. omega (arith, own-slot (c .before .before .before) .1)) (λ c. own-slot (c .before .before .before) .1)
+    (λ c. omega (arith, own-slot (at-seen c) .1)) (λ c. own-slot (at-seen c) .1)
     sends-down-requires
     (λ c. omega (arith, inside (at-end c) true)) (λ c. inside (at-end c) true)
     (λ c. omega (arith, inside (at-end c) false)) (λ c. inside (at-end c) false)
-    (λ c. omega arith) (λ c. omega arith)
+    (λ c. omega (arith, own-slot (at-end c))) (λ c. omega (arith, own-slot (at-end c) .0))
     loop-again (λ c p. reached (p .swept) (c .loop-test .left) (c .before .loop .inv .1 p)))

@@ -33,15 +33,25 @@ module _ (c : tie.After-wide2 Inv-loop μ-loop) where
   abbrev slots : Bool → ℕ
   slots side = cond side (c .before .before .wide .result) (c .wide2 .result)
 
+  taken : at-loop .loop .k < start .args .n
+  taken = at-join .before .before .loop-test .taken
+
+  -- its own slot
+  own-inside : suc floor + at-loop .loop .k < rowLimit
+  own-inside = let s = start .pre .swept in omega (arith, taken, s .all, s .slotted .few)
+
   seen : let a = start .args in (s : Swept (jointsOf (a .joins .now) (a .firsts .now) (a .seconds .now) (a .ratios .now)) (a .n))
       → Turn (s .circuit) (suc floor + at-loop .loop .k) (at-join .join-of .result) slots (getD (a .ratios .now) (at-loop .loop .k) (pos 0))
-  seen s = turn s (at-join .before .before .loop-test .taken) refl (at-join .join-of .ensures) (c .before .before .wide .ensures) (c .wide2 .ensures)
+  seen s = turn s taken refl (at-join .join-of .ensures) (c .before .before .wide .ensures) (c .wide2 .ensures)
 
   inside : (side : Bool) → slots side < rowLimit
   inside = slot-inside (start .pre .swept) (seen (start .pre .swept))
 
 abbrev at-seen : tie.After-t33 Inv-loop μ-loop → tie.After-wide2 Inv-loop μ-loop
 at-seen c = c .before .before .before
+
+abbrev at-end : tie.After-struct-told Inv-loop μ-loop → tie.After-wide2 Inv-loop μ-loop
+at-end c = at-seen (c .before .before)
 
 sends-up-requires : tie.Need-sends-up-requires Inv-loop μ-loop
 sends-up-requires c κs =
@@ -51,8 +61,8 @@ sends-up-requires c κs =
 
 loop-again : tie.Need-loop-again Inv-loop μ-loop
 loop-again c =
-    let at = at-seen (c .before .before) in
-    (omega arith, λ p. climbed (p .swept) (seen at (p .swept)) (at-loop at .loop .inv .1 p) (c .before .sends-up .ensures) (omega arith))
+    let at = at-end c in
+    (omega (arith, taken at), λ p. climbed (p .swept) (seen at (p .swept)) (at-loop at .loop .inv .1 p) (c .before .sends-up .ensures) (omega arith))
 
 returns : tie.Need-returns Inv-loop μ-loop
 returns c p = let done : c .before .loop .k ≡ c .before .before .args .n = omega arith in rw (← done) (c .before .loop .inv .1 p)
@@ -66,5 +76,6 @@ sweep-up-spec =
     (λ c. omega (arith, inside (c .before) true)) (λ c. inside (c .before) true)
     (λ c. omega (arith, inside (c .before .before) false)) (λ c. inside (c .before .before) false)
     sends-up-requires
-    (λ c. omega arith) (λ c. omega arith) (λ c. omega arith) (λ c. omega arith) (λ c. omega arith) (λ c. omega arith)
+    (λ c. omega arith) (λ c. omega (arith, own-inside (at-end c))) (λ c. omega (arith, own-inside (at-end c))) (λ c. own-inside (at-end c))
+    (λ c. omega (arith, own-inside (at-end c))) (λ c. omega (arith, taken (at-end c)))
     loop-again returns)

@@ -3,7 +3,6 @@ use mathlib.Core.Path.{_≡_, refl, _∙_}
 use lib.IntN.{_-ℤ_, natAbs}
 use mir.Facts.{toZ-ofZ}
 use borrow.Author.Needs.{needs}
-use Rattle.whole.specs.Signed.{signed}
 use Rattle.circuit.specs.Sample.{h}
 use Rattle.engine.proofs.Range.{down-fits, series-down, parallel-down}
 use Rattle.engine.proofs.wave.sends_down.Statement.{statement}
@@ -16,7 +15,10 @@ abbrev at-parallel : tie.After-struct-told6 → tie.After-enum-told2
 at-parallel c = c .before .before .before .before
 
 part-is : (c : tie.After-part) → let a = at-series (c .before) .before .before .args in c .part .result ≡ h (natAbs (a .g)) (a .a3 .0 -ℤ a .u .0)
-part-is c = let m = down-fits (at-series (c .before) .before .before .pre) refl in c .part .ensures ∙ search (needs, signed)
+part-is c =
+    let start = at-series (c .before) .before .before in
+    let m = down-fits (start .pre) refl in
+    c .part .ensures ∙ rw (toZ-ofZ (start .fits .g), toZ-ofZ (m .1), toZ-ofZ (m .7), toZ-ofZ (m .8))
 
 -- from the rounded part on
 abbrev at-part : tie.After-struct-told4 → tie.After-part
@@ -34,23 +36,30 @@ returns-2 : tie.Need-returns-2
 returns-2 c =
     let told = at-parallel (c .before .before .before .before) in
     let m = down-fits (told .before .before .pre) refl in
-    let e = parallel-down (told .before .before .pre) (told .enum-told2 .given .1) in
-    search (needs, signed)
+    rw (toZ-ofZ (m .7), toZ-ofZ (m .1), toZ-ofZ (m .10), toZ-ofZ (m .0), toZ-ofZ (m .6), toZ-ofZ (m .11), toZ-ofZ (m .12))
+    (parallel-down (told .before .before .pre) (told .enum-told2 .given .1))
 
 pub sends-down-spec : {M : Type 1} → statement M
 sends-down-spec =
     tie.close
     (tie.spec
     (λ c. search needs)
-    (λ c. let m = down-fits (at-series c .before .before .pre) refl in search (needs, signed))
-    (λ c κs. let m = down-fits (at-series c .before .before .pre) refl in search (needs, signed))
-    (λ c. let at = c .before .before in let m = down-fits (at-series (at .before) .before .before .pre) (part-is at) in search (needs, signed))
-    (λ c. let at = at-part c in let m = down-fits (at-series (at .before) .before .before .pre) (part-is at) in search (needs, signed))
+    (λ c. let m = down-fits (at-series c .before .before .pre) refl in rw (toZ-ofZ (m .1), toZ-ofZ (m .7)) (m .8))
+    (λ c κs.
+    let start = at-series c .before .before in
+    let m = down-fits (start .pre) refl in
+    rw (toZ-ofZ (start .fits .g), toZ-ofZ (m .1), toZ-ofZ (m .7), toZ-ofZ (m .8)) (start .pre .below .ratio, m .9))
+    (λ c. let at = c .before .before in let m = down-fits (at-series (at .before) .before .before .pre) (part-is at) in
+    rw (toZ-ofZ (m .0), toZ-ofZ (m .2)) (m .3))
+    (λ c. let at = at-part c in let m = down-fits (at-series (at .before) .before .before .pre) (part-is at) in
+    rw (toZ-ofZ (m .0), toZ-ofZ (m .1), toZ-ofZ (m .2), toZ-ofZ (m .3)) (m .4))
     (λ c. let at = at-part c in let m = down-fits (at-series (at .before) .before .before .pre) (part-is at) in
     rw (toZ-ofZ (m .0), toZ-ofZ (m .1), toZ-ofZ (m .2), toZ-ofZ (m .3), toZ-ofZ (m .4)) (m .5))
     (λ c. search needs)
-    (λ c. let m = down-fits (at-parallel c .before .before .pre) refl in search (needs, signed))
-    (λ c. let m = down-fits (at-parallel (c .before .before) .before .before .pre) refl in search (needs, signed))
-    (λ c. let m = down-fits (at-parallel (c .before .before .before .before) .before .before .pre) refl in search (needs, signed))
+    (λ c. let m = down-fits (at-parallel c .before .before .pre) refl in rw (toZ-ofZ (m .7), toZ-ofZ (m .1)) (m .10))
+    (λ c. let m = down-fits (at-parallel (c .before .before) .before .before .pre) refl in
+    rw (toZ-ofZ (m .7), toZ-ofZ (m .1), toZ-ofZ (m .10), toZ-ofZ (m .0)) (m .11))
+    (λ c. let m = down-fits (at-parallel (c .before .before .before .before) .before .before .pre) refl in
+    rw (toZ-ofZ (m .7), toZ-ofZ (m .1), toZ-ofZ (m .10), toZ-ofZ (m .6)) (m .12))
     returns
     returns-2)

@@ -7,16 +7,11 @@ use Rattle.file.proofs.block.seal.Tie as tie
 
 returns : tie.Need-returns
 returns c =
-    let a = c .before .before .before .before .before .args in
-    c .before .put .ensures ∙ check-placed (a .k) _ (a .b) (search needs) (c .before .before .before .check-of .ensures)
+    let put = c .before in
+    let checked = put .before .before in
+    let a = checked .before .before .args in
+    put .put .ensures ∙ check-placed (a .k) _ (a .b) (search needs) (checked .check-of .ensures)
 
 pub seal-spec : {M : Type 1} → statement M
 seal-spec =
-    tie.close
-    (tie.spec
-    (λ c. search needs)
-    (λ c κs. search needs)
-    (λ c. search needs)
-    (λ c. search needs)
-    (λ c κs. search needs)
-    returns)
+    tie.close (tie.spec (λ c. search needs) (λ c κs. search needs) (λ c. search needs) (λ c. search needs) (λ c κs. search needs) returns)

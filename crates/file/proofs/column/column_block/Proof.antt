@@ -1,54 +1,35 @@
 -- The loop has placed the first i columns, one after another, in a new block.
-use mathlib.Core.Path.{_≡_, refl, _∙_}
-use Prim.Native.Nat.{_-_, _*_, _≤_, zero-le}
+use mathlib.Core.Path.{_≡_}
+use Prim.Native.Nat.{_-_}
 use native.Mathlib.Omega.{arith}
 use borrow.Author.Needs.{needs}
-use mathlib.Core.List.{map}
-use lib.ListN.{length, take}
+use lib.ListN.{length}
 use Rattle.circuit.specs.Record.{columnLimit}
-use Rattle.circuit.specs.File.{blockLength, columnLength, columnFields, concat}
-use Rattle.file.proofs.Placed.{Begun, begun-none, begun-bytes}
-use Rattle.file.proofs.Tables.{pieces-none, pieces-more, pieces-all}
+use Rattle.circuit.specs.File.{columnLength, columnFields}
+use Rattle.file.proofs.Pieces.{Pieces, pieces-none, pieces-more, pieces-all}
 use Rattle.file.proofs.Sizes.{column-size}
 use Rattle.file.proofs.column.column_block.Statement.{statement}
 use Rattle.file.proofs.column.column_block.Tie as tie
 
 abbrev Inv-loop : tie.InvT-loop
-Inv-loop columns b₀ i₀ b i = (i ≤ columnLimit) × (length b ≡ blockLength) × Begun (columnLength * i) b (concat (map columnFields (take i columns)))
+Inv-loop columns b₀ i₀ b i = Pieces columnFields columnLength columns b i
 
 abbrev μ-loop : tie.MeasureT-loop
 μ-loop columns b₀ i₀ b i = columnLimit - i
 
-loop-holds : tie.Need-loop-holds Inv-loop μ-loop
-loop-holds c = (zero-le, refl, pieces-none columnFields columnLength column-size (c .args .t1) _ begun-none)
+abbrev at-loop : tie.After-put-column Inv-loop μ-loop → tie.At-loop Inv-loop μ-loop
+at-loop c = c .before .before .before .before
 
 loop-again : tie.Need-loop-again Inv-loop μ-loop
 loop-again c =
-    let at = c .before .before .before .before .before in
-    let l = at .loop in (
-      omega arith,
-      c .before .put-column .kept .0 ∙ l .inv .1,
-      rw (c .before .put-column .ensures) (pieces-more columnFields columnLength column-size (at .before .args .t1) (l .b) (l .i) _ (search needs) (l .inv .2)),
-    )
+    let put = c .before .put-column in
+    pieces-more (at-loop (c .before) .loop .inv) column-size _ (search needs) (put .ensures) (put .kept .0)
 
 returns : tie.Need-returns Inv-loop μ-loop
-returns c =
-    let l = c .before .loop in
-    begun-bytes (pieces-all columnFields columnLength column-size (c .before .before .args .t1) (l .b) (l .i) columnLimit (omega arith) (search needs) (l .inv .2))
+returns c = let all : length (c .before .before .args .t1) ≡ columnLimit = search needs in pieces-all (c .before .loop .inv) (omega arith)
 
 pub column-block-spec : {M : Type 1} → statement M
 column-block-spec =
     tie.close
-    (tie.spec
-    Inv-loop
-    μ-loop
-    loop-holds
-    (λ c. omega arith)
-    (λ c. omega arith)
-    (λ c. search needs)
-    (λ c. omega arith)
-    (λ c κs. omega arith)
-    (λ c. omega arith)
-    (λ c. omega arith)
-    loop-again
-    returns)
+    (tie.spec Inv-loop μ-loop (λ c. pieces-none) (λ c. omega arith) (λ c. omega arith) (λ c. search needs) (λ c. omega arith) (λ c κs. omega arith)
+    (λ c. omega arith) (λ c. omega arith) loop-again returns)

@@ -15,8 +15,8 @@ returns c r ratio =
     let end = c .before .before in
     let name = end .before .before .before .before in
     let number = name .before .before .before .before in
-    rw ratio
-    (puts-most (puts-as (puts-then (number .put-number .ensures) (puts-then (name .put-join .ensures) (end .put-ending .ensures))) (simp append-assoc)) (omega arith))
+    let line = puts-then (number .put-number .ensures) (puts-then (name .put-join .ensures) (end .put-ending .ensures)) in
+    rw ratio (puts-most (puts-as line (simp append-assoc)) (omega arith))
 
 pub put-adaptor-spec : {M : Type 1} → statement M
 put-adaptor-spec =

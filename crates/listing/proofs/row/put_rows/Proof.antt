@@ -24,15 +24,19 @@ loop-holds c =
     let a = start .args in
     (omega arith, few-rows (a .t3) (start .pre .0), refl, rw (lines-none (a .t3)) (puts-none 0 (a .at) (a .out .now) (omega arith)))
 
+abbrev at-loop : tie.After-put-part Inv-loop μ-loop → tie.At-loop Inv-loop μ-loop
+at-loop c = let ready = c .before .before .before in ready .before .before .before
+
 loop-again : tie.Need-loop-again Inv-loop μ-loop
 loop-again c =
-    let turn = c .before .before .before .before .before .before .before .before in
+    let put = c .before .before in
+    let turn = at-loop put in
     let start = turn .before .before in
     let r = start .args .t3 in
-    let line = c .before .before .put-part .ensures r (ratio-prepared r (start .pre .0) (start .pre .1) (turn .loop .j) _ (omega arith)) in (
+    let line = put .put-part .ensures r (ratio-prepared r (start .pre .0) (start .pre .1) (turn .loop .j) _ (omega arith)) in (
       omega arith,
       turn .loop .inv .1,
-      c .before .before .put-part .kept .0 ∙ turn .loop .inv .2,
+      put .put-part .kept .0 ∙ turn .loop .inv .2,
       rw lines-next (puts-most (puts-then (turn .loop .inv .3) line) (omega arith)),
     )
 

@@ -31,18 +31,22 @@ module _ (t : ℕ) where
 
   one-digit : lts.Need-returns-2 (put-byte.Asked, put-byte.Learnt, below t, reads.Post) (here t) reads.Post
   one-digit c =
-      let a = c .before .before .before .before .before .before .before .args in
+      let put = c .before .before in
+      let asked = put .before .before .before in
+      let a = asked .before .before .args in
       let some : 0 < a .k = omega arith in
       let small : a .n < 10 = omega arith in
-      rw (digits-one (a .n) (a .k) some small) (puts-most (c .before .before .put-byte .ensures) some)
+      rw (digits-one (a .n) (a .k) some small) (puts-most (put .put-byte .ensures) some)
 
   more-digits : lts.Need-returns-3 (put-byte.Asked, put-byte.Learnt, below t, reads.Post) (here t) reads.Post
   more-digits c =
-      let p = c .before .before .before .before .before .before in
-      let a = p .before .before .before .before .before .args in
+      let put = c .before .before in
+      let more = put .before .before .before .before in
+      let asked = more .before .before .before in
+      let a = asked .before .before .args in
       let some : 0 < a .k = omega arith in
       let large : 10 ≤ a .n = omega arith in
-      rw (digits-more (a .n) (a .k) some large) (puts-most (puts-then (p .put-digits .ensures) (c .before .before .put-byte2 .ensures)) (omega arith))
+      rw (digits-more (a .n) (a .k) some large) (puts-most (puts-then (more .put-digits .ensures) (put .put-byte2 .ensures)) (omega arith))
 
 pub +put-digits-spec : {M : Type 1} → statement M
 +put-digits-spec =

@@ -5,7 +5,10 @@ use Rattle.listing.proofs.text.put_number.Statement.{statement}
 use Rattle.listing.proofs.text.put_number.Tie as tie
 
 returns : tie.Need-returns
-returns c = puts-then (c .before .before .before .before .before .before .put-digits .ensures) (c .before .before .put-text .ensures)
+returns c =
+    let after = c .before .before in
+    let number = after .before .before .before .before in
+    puts-then (number .put-digits .ensures) (after .put-text .ensures)
 
 pub put-number-spec : {M : Type 1} → statement M
 put-number-spec = tie.close (tie.spec (λ c κs. search needs) (λ c κs. search needs) (λ c. search needs) returns)

@@ -11,9 +11,12 @@ use Rattle.listing.proofs.text.put_numbers.Tie as tie
 returns : tie.Need-returns
 unfolding numbersLine text
 returns c =
-    let number = c .before .before .before .before .before .before .before in
+    let last = c .before .before in
+    let between = last .before .before .before in
+    let number = between .before .before in
     let first = number .before .before .before .before in
-    puts-most (puts-as (puts-then (first .put-text .ensures) (puts-then (number .put-number .ensures) (c .before .before .put-number2 .ensures))) (simp append-assoc)) (omega arith)
+    let line = puts-then (first .put-text .ensures) (puts-then (number .put-number .ensures) (last .put-number2 .ensures)) in
+    puts-most (puts-as line (simp append-assoc)) (omega arith)
 
 pub put-numbers-spec : {M : Type 1} → statement M
 put-numbers-spec =

@@ -20,28 +20,33 @@ loop-holds : tie.Need-loop-holds Inv-loop μ-loop
 unfolding lineStart
 loop-holds c = (omega arith, refl, omega arith)
 
+abbrev entered : tie.At-loop Inv-loop μ-loop → tie.Start Inv-loop μ-loop
+entered c = c .before .before .before
+
 loop-again : tie.Need-loop-again Inv-loop μ-loop
 unfolding lineStart
 loop-again c =
     let turn = c .before .before in
-    let lines = turn .before .before .before .args .lines .now in
-    (omega arith, rw add-one (c .line-end .ensures ∙ ap (lineEnd lines) (turn .loop .inv .1)), omega (arith, line-inside lines (turn .loop .from) (turn .loop .inv .2)))
+    let lines = entered turn .args .lines .now in (
+      omega arith,
+      rw add-one (c .line-end .ensures ∙ ap (lineEnd lines) (turn .loop .inv .1)),
+      omega (arith, line-inside lines (turn .loop .from) (turn .loop .inv .2)),
+    )
 
 part-put-text-end : tie.Need-part-put-text-end Inv-loop μ-loop
 part-put-text-end c =
     let end = c .before .before .before in
-    omega (arith, line-inside (end .before .before .before .args .lines .now) (end .loop .from) (end .loop .inv .2))
+    omega (arith, line-inside (entered end .args .lines .now) (end .loop .from) (end .loop .inv .2))
 
 -- where the loop ends, the line begins
-start : (c : tie.After-loop Inv-loop μ-loop) → c .before .loop .from ≡ lineStart (c .before .before .before .before .args .lines .now) (c .before .before .before .before .args .k)
-start c =
-    let all : c .before .loop .counter ≡ c .before .before .before .before .args .k = omega arith in
-    rw all at (c .before .loop .inv .1)
+start : (c : tie.After-loop Inv-loop μ-loop)
+    → c .before .loop .from ≡ lineStart (entered (c .before) .args .lines .now) (entered (c .before) .args .k)
+start c = let all : c .before .loop .counter ≡ entered (c .before) .args .k = omega arith in rw all at (c .before .loop .inv .1)
 
 put-text-requires : tie.Need-put-text-requires Inv-loop μ-loop
 put-text-requires c κs =
     let end = c .before .before in
-    rw (end .line-end2 .ensures, start (end .before), zero-add) (end .before .before .before .before .before .pre)
+    rw (end .line-end2 .ensures, start (end .before), zero-add) (entered (end .before .before) .pre)
 
 returns : tie.Need-returns Inv-loop μ-loop
 returns c =
@@ -52,4 +57,5 @@ returns c =
 pub put-line-spec : {M : Type 1} → statement M
 put-line-spec =
     tie.close
-    (tie.spec Inv-loop μ-loop loop-holds (λ c κs. omega arith) (λ c. omega arith) (λ c. omega arith) loop-again (λ c κs. omega arith) (λ c. omega arith) (λ c. omega arith) part-put-text-end put-text-requires (λ c. omega arith) returns)
+    (tie.spec Inv-loop μ-loop loop-holds (λ c κs. omega arith) (λ c. omega arith) (λ c. omega arith) loop-again (λ c κs. omega arith)
+    (λ c. omega arith) (λ c. omega arith) part-put-text-end put-text-requires (λ c. omega arith) returns)

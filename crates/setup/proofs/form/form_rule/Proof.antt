@@ -16,12 +16,13 @@ both-limits a b c d e h =
     let counts = and-eq-true-iff (a && b) (c && d) .0 (and-eq-true-iff (a && b && (c && d)) e .0 h .0) in
     (and-eq-true-iff a b .0 (counts .0) .1, and-eq-true-iff c d .0 (counts .1) .1)
 
-room : (c : tie.Else1) → (c .before .before .args .r .count ≤ rowLimit) × (c .before .before .args .r .width ≤ columnLimit)
+room : (c : tie.Else1) → (c .before .before .args .h .count ≤ rowLimit) × (c .before .before .args .h .width ≤ columnLimit)
 room c =
-    let r = c .before .before .args .r in
-    let h = sym (c .before .has-counts .ensures) ∙ not-false (c .before .has-counts .result) (c .if1 .left) in
-    let limits = both-limits (leb 1 (r .count)) (leb (r .count) rowLimit) (leb 2 (r .width)) (leb (r .width) columnLimit) (isSet (r .kind)) h in
-    (leb-true (r .count) rowLimit (limits .0), leb-true (r .width) columnLimit (limits .1))
+    let h = c .before .before .args .h in
+    let counts = c .before .has-counts in
+    let all = sym (counts .ensures) ∙ not-false (counts .result) (c .if1 .left) in
+    let limits = both-limits (leb 1 (h .count)) (leb (h .count) rowLimit) (leb 2 (h .width)) (leb (h .width) columnLimit) (isSet (h .kind)) all in
+    (leb-true (h .count) rowLimit (limits .0), leb-true (h .width) columnLimit (limits .1))
 
 returns : tie.Need-returns
 unfolding handed formRule
@@ -30,20 +31,23 @@ returns c = rw (← c .before .has-counts .ensures, not-true (c .before .has-cou
 returns-2 : tie.Need-returns-2
 unfolding handed formRule
 returns-2 c =
-    let at = c .before .before in
-    let counts = at .before .before .has-counts in
-    rw (← counts .ensures, not-false (counts .result) (at .before .if1 .left), ← at .blank-rows .ensures, ← c .before .blank-columns .ensures)
+    let rows = c .before .before .before in
+    let counted = rows .before .before in
+    let counts = counted .before .has-counts in
+    rw (← counts .ensures, not-false (counts .result) (counted .if1 .left), ← rows .blank-rows .ensures, ← c .before .blank-columns .ensures)
     (ap (λ (b : Bool). numbered 4 (unless b 0)) (sym (c .if2 .taken)))
 
 returns-3 : tie.Need-returns-3
 unfolding handed formRule
 returns-3 c =
-    let at = c .before .before in
-    let counts = at .before .before .has-counts in
-    rw (← counts .ensures, not-false (counts .result) (at .before .if1 .left), ← at .blank-rows .ensures, ← c .before .blank-columns .ensures)
+    let rows = c .before .before .before in
+    let counted = rows .before .before in
+    let counts = counted .before .has-counts in
+    rw (← counts .ensures, not-false (counts .result) (counted .if1 .left), ← rows .blank-rows .ensures, ← c .before .blank-columns .ensures)
     (ap (λ (b : Bool). numbered 4 (unless b 0)) (sym (c .if2 .left)))
 
 pub form-rule-spec : {M : Type 1} → statement M
 form-rule-spec =
     tie.close
-    (tie.spec (λ c κs. search needs) returns (λ c κs. room c .0) (λ c κs. room (c .before) .1) returns-2 returns-3)
+    (tie.spec (λ c κs. search needs) returns (λ c. search needs) (λ c κs. room (c .before) .0) (λ c. search needs)
+    (λ c κs. room (c .before .before .before) .1) returns-2 returns-3)

@@ -8,11 +8,13 @@ use borrow.Author.Needs.{needs}
 use borrow.Author.Tests.{eqb-true, eqb-false, eq-eqb, ne-eqb}
 use lib.Dec.{eqb}
 use lib.ListN.{getD}
+use Rattle.circuit.specs.Counting.{total}
 use Rattle.circuit.specs.Numbers.{handed, lowest}
-use Rattle.circuit.specs.Record.{uses, usedOnceRule}
+use Rattle.circuit.specs.Record.{names}
 use Rattle.laws.specs.Numbered.{numbered}
 use Rattle.laws.proofs.Counting.{lowest-same}
 use Rattle.laws.proofs.Searching.{Clear, begin, step, found, none}
+use Rattle.sheet.specs.Sheet.{partIn}
 use Rattle.setup.proofs.tree.used_once_rule.Statement.{statement}
 use Rattle.setup.proofs.tree.used_once_rule.Tie as tie
 
@@ -27,34 +29,38 @@ one-of n = by (eqb n 1) refl
     by false e = let other = eqb-false n 1 e in ne-eqb (min 2 n) 1 (λ q. other (omega arith)) ∙ sym e
 
 abbrev Inv-loop : tie.InvT-loop
-Inv-loop uses last k₀ k = Clear (fault uses) last k
+Inv-loop count cells microvolts values uses last k₀ k = Clear (fault uses) last k
 
 abbrev μ-loop : tie.MeasureT-loop
-μ-loop uses last k₀ k = last - k
+μ-loop count cells microvolts values uses last k₀ k = last - k
 
--- what a search of the uses tells of the record
+-- how often row k is a child
+abbrev often : tie.After-uses Inv-loop μ-loop → ℕ → ℕ
+often c k =
+    let given = c .before .args in
+    total (λ j. names (partIn (given .cells .now) (given .microvolts .now) (given .values .now) j) k) (given .count)
+
+-- what a search of the uses tells of the rows
 same : (c : tie.After-uses Inv-loop μ-loop)
-    → numbered 6 (lowest (fault (c .uses .result)) (c .before .args .r .count - 1)) ≡ numbered 6 (usedOnceRule (c .before .args .r))
-unfolding usedOnceRule
+    → let last = c .before .args .count - 1 in
+    numbered 6 (lowest (fault (c .uses .result)) last) ≡ numbered 6 (lowest (λ k. not (eqb (often c k) 1)) last)
 same c =
-    let r = c .before .args .r in
-    let short = c .before .pre .short in
     ap (numbered 6)
-    (lowest-same (fault (c .uses .result)) _ (r .count - 1)
-    (λ k l. ap (λ n. not (eqb n 1)) (c .uses .ensures k (omega arith)) ∙ ap not (one-of (uses r k))))
+    (lowest-same (fault (c .uses .result)) _ (c .before .args .count - 1)
+    (λ k l. ap (λ n. not (eqb n 1)) (c .uses .ensures k (omega (arith, c .before .pre .1))) ∙ ap not (one-of (often c k))))
 
 returns : tie.Need-returns Inv-loop μ-loop
 unfolding handed
 returns c =
     let at = c .before .before in
-    found (at .loop .inv) {test = true} 6 (omega arith) (sym (ap not (ne-eqb _ 1 (c .if1 .taken)))) refl ∙ same (at .before .before)
+    found (at .loop .inv) {test = true} 6 (omega arith) (sym (ap not (ne-eqb _ 1 (c .if1 .taken)))) refl ∙ same (at .before)
 
 loop-again : tie.Need-loop-again Inv-loop μ-loop
 loop-again c = step (c .before .before .loop .inv) {test = false} (omega arith) (sym (ap not (eq-eqb _ 1 (c .if1 .left)))) refl
 
 returns-2 : tie.Need-returns-2 Inv-loop μ-loop
 unfolding handed
-returns-2 c = let at = c .before in none (at .loop .inv) 6 (c .loop-test .left) ∙ same (at .before .before)
+returns-2 c = let at = c .before in none (at .loop .inv) 6 (c .loop-test .left) ∙ same (at .before)
 
 pub used-once-rule-spec : {M : Type 1} → statement M
 used-once-rule-spec =

@@ -1,0 +1,97 @@
+-- A record as lists of numbers, a sheet: what each row and each column puts into which list, and the record that a sheet stands for.
+use Prim.Native.Nat.{ℕ}
+use mathlib.Core.Path.{_≡_}
+use mathlib.Core.List.{List, [], _∷_}
+use lib.ListN.{getD}
+use lib.IntN.{ℤ, pos}
+use lib.Ieee.{Float, nan, binary64, ofBits}
+use Rattle.circuit.specs.Counting.{table}
+use Rattle.circuit.specs.Record.{rowLimit, columnLimit, rowIn, columnAt}
+use Rattle.circuit.specs.File.{partOf, joinNumber}
+use Rattle.circuit.specs.declared.Element.the-variants.{Resistor, Capacitor, Inductor, Input, Steady}
+use Rattle.circuit.specs.declared.Part.{Part}
+use Rattle.circuit.specs.declared.Part.the-variants.{Blank, Leaf, Adaptor}
+use Rattle.circuit.specs.declared.Row.{Row}
+use Rattle.circuit.specs.declared.Column.{Column}
+use Rattle.circuit.specs.declared.Record.{Record}
+use Rattle.laws.specs.Accepted.{origin}
+use Rattle.sheet.specs.declared.Heading.{Heading}
+
+-- ---- what a row is written as
+
+-- its kind, by the number that a file has for it, and its children
+abbrev pub cellOf : Part → List ℕ
+cellOf Blank = 0 ∷ 0 ∷ 0 ∷ []
+cellOf (Leaf (Resistor r)) = 1 ∷ 0 ∷ 0 ∷ []
+cellOf (Leaf (Capacitor c)) = 2 ∷ 0 ∷ 0 ∷ []
+cellOf (Leaf (Inductor l)) = 3 ∷ 0 ∷ 0 ∷ []
+cellOf (Leaf (Input r)) = 4 ∷ 0 ∷ 0 ∷ []
+cellOf (Leaf (Steady r v)) = 5 ∷ 0 ∷ 0 ∷ []
+cellOf (Adaptor a) = joinNumber (a .join) ∷ a .first ∷ a .second ∷ []
+
+-- of a steady source
+abbrev pub microvoltsOf : Part → ℤ
+microvoltsOf Blank = pos 0
+microvoltsOf (Leaf (Resistor r)) = pos 0
+microvoltsOf (Leaf (Capacitor c)) = pos 0
+microvoltsOf (Leaf (Inductor l)) = pos 0
+microvoltsOf (Leaf (Input r)) = pos 0
+microvoltsOf (Leaf (Steady r v)) = v
+microvoltsOf (Adaptor a) = pos 0
+
+-- ohms, farads or henries
+abbrev pub valueOf : Part → Float
+valueOf Blank = ofBits binary64 0
+valueOf (Leaf (Resistor r)) = r
+valueOf (Leaf (Capacitor c)) = c
+valueOf (Leaf (Inductor l)) = l
+valueOf (Leaf (Input r)) = r
+valueOf (Leaf (Steady r v)) = r
+valueOf (Adaptor a) = ofBits binary64 0
+
+-- ---- a sheet
+
+pub record Filled (rows : List Row) (cells : List (List ℕ)) (microvolts : List ℤ) (values : List Float) : Type 0 where
+  pub cell : cells ≡ table (λ j. cellOf (rowIn rows j .part)) rowLimit
+  pub microvolt : microvolts ≡ table (λ j. microvoltsOf (rowIn rows j .part)) rowLimit
+  pub value : values ≡ table (λ j. valueOf (rowIn rows j .part)) rowLimit
+
+abbrev pub headingOf : Record → Heading
+headingOf r = record { rate = r .rate; count = r .count; tap = r .tap; kind = r .kind; width = r .width; resistance = r .resistance }
+
+-- of a record
+pub record Spread (r : Record) (h : Heading) (cells : List (List ℕ)) (microvolts : List ℤ) (values : List Float) (xs ys : List ℤ) : Type 0 where
+  pub heading : h ≡ headingOf r
+  pub rows : Filled (r .rows) cells microvolts values
+  pub across : xs ≡ table (λ i. columnAt r i .x) columnLimit
+  pub back : ys ≡ table (λ i. columnAt r i .y) columnLimit
+
+-- ---- what a sheet stands for
+
+abbrev pub partBy : List ℕ → ℤ → Float → Part
+partBy cell v x = partOf (getD cell 0 0) (getD cell 1 0) (getD cell 2 0) v x
+
+unfoldable pub rowsIn : List (List ℕ) → List ℤ → List Float → List Row
+rowsIn cells microvolts values = table (λ j. record { part = partBy (getD cells j []) (getD microvolts j (pos 0)) (getD values j nan) }) rowLimit
+
+unfoldable pub columnsIn : List ℤ → List ℤ → List Column
+columnsIn xs ys = table (λ i. record { x = getD xs i (pos 0); y = getD ys i (pos 0) }) columnLimit
+
+-- past the last row there are blank ones, and past the last column those at (0, 0)
+abbrev pub partIn : List (List ℕ) → List ℤ → List Float → ℕ → Part
+partIn cells microvolts values j = rowIn (rowsIn cells microvolts values) j .part
+
+abbrev pub columnIn : List ℤ → List ℤ → ℕ → Column
+columnIn xs ys i = getD (columnsIn xs ys) i origin
+
+abbrev pub recordIn : Heading → List Row → List Column → Record
+recordIn h rows columns = record {
+  rate = h .rate;
+  count = h .count;
+  tap = h .tap;
+  rows = rows;
+  kind = h .kind;
+  width = h .width;
+  columns = columns;
+  resistance = h .resistance;
+}
