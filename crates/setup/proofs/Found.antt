@@ -16,7 +16,8 @@ use Rattle.circuit.specs.declared.Ports.{Ports}
 use Rattle.circuit.specs.declared.Prepared.{Prepared}
 use Rattle.circuit.specs.declared.Record.{Record}
 use Rattle.laws.proofs.Counting.{getD-table, length-table, is-table}
-use Rattle.setup.specs.Rows.{row, rowsBy, Zeros, Filled}
+use Rattle.setup.specs.Rows.{rowsBy, Zeros, Filled}
+use Rattle.measure.specs.Ratio.{row}
 use Rattle.setup.proofs.Judged.{refused-rows}
 
 -- one field of rows that a list holds

@@ -21,9 +21,10 @@ use Rattle.circuit.specs.declared.Record.{Record}
 use Rattle.laws.specs.Accepted.{Lower}
 use Rattle.laws.proofs.Counting.{getD-table, table-same, lowest-same}
 use Rattle.laws.proofs.Trees.{tree-blank, tree-leaf, resistance-leaf, ratio-leaf, resistance-adaptor, ratio-adaptor}
-use Rattle.setup.specs.Ratio.{proper}
-use Rattle.setup.specs.Rows.{row, joinedRow, preparedFrom, rowsBy, Rooted, Filled}
-use Rattle.setup.proofs.Width.{proper-below}
+use Rattle.measure.specs.Ratio.{proper}
+use Rattle.setup.specs.Rows.{preparedFrom, rowsBy, Rooted, Filled}
+use Rattle.measure.specs.Ratio.{row, joinedRow}
+use Rattle.measure.proofs.Width.{proper-below}
 
 -- the record's row j, as set-up fills it
 abbrev pub filledRow : Record → ℕ → Prepared

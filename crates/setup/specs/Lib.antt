@@ -1,4 +1,3 @@
 pub mod Answers
-pub mod Ratio
 pub mod Rows
 pub mod Uses

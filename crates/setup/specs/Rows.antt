@@ -6,22 +6,14 @@ use lib.ListN.{getD, replicate}
 use lib.Ieee.{Float, nan, binary64, ofBits}
 use Rattle.circuit.specs.Counting.{table}
 use Rattle.circuit.specs.Record.{rowLimit, partAt}
-use Rattle.circuit.specs.SetUp.{nothing, leafResistance, joinedResistance, quotient, parts, scaledDown, resistanceAt, ratioAt}
-use Rattle.circuit.specs.declared.Join.{Join}
+use Rattle.circuit.specs.SetUp.{nothing, leafResistance, parts, resistanceAt, ratioAt}
 use Rattle.circuit.specs.declared.Part.{Part}
 use Rattle.circuit.specs.declared.Part.the-variants.{Blank, Leaf, Adaptor}
 use Rattle.circuit.specs.declared.Prepared.{Prepared}
 use Rattle.circuit.specs.declared.Record.{Record}
 use Rattle.laws.specs.Accepted.{Lower}
 use Rattle.laws.proofs.Formed.{Formed}
-use Rattle.setup.specs.Ratio.{proper}
-
-abbrev pub row : Float → ℕ → Prepared
-row R g = record { resistance = R; ratio = g }
-
--- an adaptor over children with these resistances
-abbrev pub joinedRow : Join → Float → Float → Prepared
-joinedRow k r1 r2 = row (joinedResistance k r1 r2) (proper parts (scaledDown parts (quotient k r1 r2)))
+use Rattle.measure.specs.Ratio.{proper, row, joinedRow}
 
 -- a row from its part and the resistances of the rows below it
 unfoldable pub preparedFrom : ℕ → Part → List Float → Prepared

@@ -8,95 +8,26 @@ ghost use lib.Ieee.{nan};
 ghost use lib.ListN.{getD};
 ghost use Rattle.circuit.specs.Numbers.{handed, unless, lowest};
 ghost use Rattle.circuit.specs.Record.{rowLimit};
-ghost use Rattle.circuit.specs.SetUp.{inRange, leafResistance, joinedResistance, quotient, parts, scaledDown, ratioFault, fits};
+ghost use Rattle.circuit.specs.SetUp.{inRange, ratioFault, fits};
 ghost use Rattle.laws.specs.Accepted.{Lower};
 ghost use Rattle.circuit.specs.declared.Column.{Column};
 ghost use Rattle.laws.specs.Numbered.{numbered};
 ghost use Rattle.sheet.specs.Sheet.{rowsIn, partIn, recordIn};
-ghost use Rattle.setup.specs.Ratio.{proper};
-ghost use Rattle.setup.specs.Rows.{joinedRow, preparedFrom, rowsBy, Rooted, Zeros, Filled};
+ghost use Rattle.setup.specs.Rows.{preparedFrom, rowsBy, Rooted, Zeros, Filled};
 use circuit::Answer;
-use circuit::Element;
-use circuit::Join;
-use circuit::PARTS;
 use circuit::Part;
 use circuit::Prepared;
 use circuit::ROWS;
+use measure::fits_top;
+use measure::in_range;
+use measure::joined;
+use measure::leaf_resistance;
+use measure::ratio_fault;
 use sheet::Cells;
 use sheet::Heading;
 use sheet::Microvolts;
 use sheet::Values;
 use sheet::part_in;
-
-fn leaf_resistance(rate: u32, e: Element) -> f64
-    ensures { λ r. ⌜ r ≡ leafResistance rate e ⌝ }
-{
-    match e {
-        Element::Resistor(ohms) => ohms,
-        Element::Capacitor(farads) => 1.0 / ((2.0 * farads) * (rate as f64)),
-        Element::Inductor(henries) => (2.0 * henries) * (rate as f64),
-        Element::Input(ohms) => ohms,
-        Element::Steady(ohms, _) => ohms,
-    }
-}
-
-fn joined_resistance(join: Join, r1: f64, r2: f64) -> f64
-    ensures { λ r. ⌜ r ≡ joinedResistance join r1 r2 ⌝ }
-{
-    match join {
-        Join::Series => r1 + r2,
-        Join::Parallel => (r1 * r2) / (r1 + r2),
-    }
-}
-
-fn quotient_of(join: Join, r1: f64, r2: f64) -> f64
-    ensures { λ q. ⌜ q ≡ quotient join r1 r2 ⌝ }
-{
-    match join {
-        Join::Series => r1 / (r1 + r2),
-        Join::Parallel => r2 / (r1 + r2),
-    }
-}
-
-// A value without its fraction; 0 where it is not from 0 up to below 2^24.
-fn whole_part(x: f64) -> u32
-    ensures { λ n. ⌜ n ≡ proper parts (scaledDown 1 x) ⌝ }
-{
-    if (0.0 < x) & (x < (PARTS as f64)) {
-        std::num::truncating_f64_to_u64(x) as u32
-    } else {
-        0
-    }
-}
-
-// The quotient in parts of 2^24, rounded down. Below one the product is exact: only its fraction is cut off.
-fn ratio_of(q: f64) -> u32
-    ensures { λ g. ⌜ g ≡ proper parts (scaledDown parts q) ⌝ }
-{
-    whole_part(q * (PARTS as f64))
-}
-
-// From 1/1024 to 2^30 ohms.
-fn in_range(x: f64) -> bool
-    ensures { λ b. ⌜ b ≡ inRange x ⌝ }
-{
-    (0.0009765625 <= x) & (x <= 1073741824.0)
-}
-
-// Within one part in 1024 of the top's resistance.
-fn fits_top(q: f64, r: f64) -> bool
-    ensures { λ b. ⌜ b ≡ fits q r ⌝ }
-{
-    (r * 1023.0 <= q * 1024.0) & (q * 1024.0 <= r * 1025.0)
-}
-
-fn joined(join: Join, r1: f64, r2: f64) -> Prepared
-    ensures { λ p. ⌜ p ≡ joinedRow join r1 r2 ⌝ }
-{
-    let resistance = joined_resistance(join, r1, r2);
-    let ratio = ratio_of(quotient_of(join, r1, r2));
-    Prepared { resistance, ratio }
-}
 
 // A row from the resistances of the rows below it.
 fn prepared_row(rate: u32, p: Part, resistances: &[f64; ROWS]) -> Prepared
@@ -171,17 +102,6 @@ pub(crate) fn resistance_rule(count: u8, resistances: &[f64; ROWS]) -> Answer
         }
     }
     Answer::Done
-}
-
-// A ratio of no part or of all, which only an adaptor can have.
-fn ratio_fault(p: Part, ratio: u32) -> bool
-    ensures { λ b. ⌜ b ≡ ratioFault p ratio ⌝ }
-{
-    match p {
-        Part::Blank => false,
-        Part::Leaf(_) => false,
-        Part::Adaptor(_) => !((1 <= ratio) & (ratio <= PARTS - 1)),
-    }
 }
 
 pub(crate) fn ratio_rule(

@@ -18,7 +18,7 @@ use Rattle.laws.specs.Accepted.{Lower}
 use Rattle.laws.proofs.Counting.{table-next, table-at, table-rest}
 use Rattle.laws.proofs.Looping.{Upto, onward, whole}
 use Rattle.sheet.specs.Sheet.{rowsIn, recordIn}
-use Rattle.setup.specs.Ratio.{proper}
+use Rattle.measure.specs.Ratio.{proper}
 use Rattle.setup.specs.Rows.{preparedFrom, Rooted}
 use Rattle.sheet.proofs.Back.{part-read}
 use Rattle.setup.proofs.Rows.{filled-blank, fills}

@@ -3,7 +3,8 @@ use mathlib.Core.Path.{sym, ap, _∙_}
 use borrow.Author.Needs.{needs}
 use Rattle.circuit.specs.declared.Part.{Part}
 use Rattle.laws.specs.Accepted.{Lower}
-use Rattle.setup.specs.Rows.{row, preparedFrom}
+use Rattle.setup.specs.Rows.{preparedFrom}
+use Rattle.measure.specs.Ratio.{row}
 use Rattle.setup.proofs.port.prepared_row.Statement.{statement}
 use Rattle.setup.proofs.port.prepared_row.Tie as tie
 

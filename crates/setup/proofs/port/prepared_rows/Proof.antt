@@ -10,7 +10,7 @@ use Rattle.circuit.specs.Counting.{table}
 use Rattle.circuit.specs.Record.{rowLimit}
 use Rattle.laws.proofs.Counting.{table-next}
 use Rattle.laws.proofs.Looping.{Upto, onward, whole}
-use Rattle.setup.specs.Rows.{row}
+use Rattle.measure.specs.Ratio.{row}
 use Rattle.setup.proofs.port.prepared_rows.Statement.{statement}
 use Rattle.setup.proofs.port.prepared_rows.Tie as tie
 
