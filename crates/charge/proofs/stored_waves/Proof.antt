@@ -33,8 +33,11 @@ abbrev μ-loop : tie.MeasureT-loop
 abbrev part-found : tie.After-sound-wave Inv-loop μ-loop → tie.After-part-in Inv-loop μ-loop
 part-found c = c .before .before
 
+abbrev read : tie.After-part-in Inv-loop μ-loop → tie.After-part-in-arg2 Inv-loop μ-loop
+read c = c .before .before
+
 abbrev turn : tie.After-part-in Inv-loop μ-loop → tie.At-loop Inv-loop μ-loop
-turn c = c .before .before .before .before .before
+turn c = read c .before .before .before
 
 abbrev start : tie.At-loop Inv-loop μ-loop → tie.Start Inv-loop μ-loop
 start c = c .before .before
@@ -48,7 +51,7 @@ told c =
     let waves = start (turn found) .args .state .waves in
     let fits : SFits w32 (storedAt waves (turn found .loop .j)) = search needs in
     let inside : turn found .loop .j < rowLimit = omega arith in
-    let part = part-read _ _ _ _ inside (record { sfits = found .before .before .part-in-arg2 .given }) (found .part-in .ensures) in
+    let part = part-read _ _ _ _ inside (record { sfits = read found .part-in-arg2 .given }) (found .part-in .ensures) in
     ap not (rw (toZ-ofZ fits) at (c .sound-wave .ensures) ∙ ap (λ (p : Part). soundWave p (storedAt waves (turn found .loop .j))) part)
 
 pub stored-waves-spec : {M : Type 1} → statement M

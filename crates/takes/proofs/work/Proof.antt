@@ -15,10 +15,10 @@ use Rattle.takes.proofs.work.Tie as tie
 -- ---- places of the walk: after the run, and after its number is asked
 
 abbrev start : tie.After-run-raw → tie.Start
-start w = w .before .before .before .before .before .before .before .before
+start w = let lent = w .before .before .before .before in lent .before .before .before .before
 
 abbrev run : tie.After-number → tie.After-run-raw
-run c = c .before .before .before .before .before
+run c = let summed = c .before .before in summed .before .before .before
 
 -- ---- the run
 
@@ -26,10 +26,13 @@ sized : (c : tie.Start) → length (c .args .carried .left) ≡ leftLimit
 sized c = left-sized (c .args .carried) _ (c .good .1 .0)
 
 array-share-prefix-left : tie.Need-array-share-prefix-left
-array-share-prefix-left c = omega (arith, sized (c .before .before .before .before .before))
+array-share-prefix-left c = let taken = c .before .before in omega (arith, sized (taken .before .before .before))
 
 slice-aggregate-run-raw : tie.Need-slice-aggregate-run-raw
-slice-aggregate-run-raw c = let first = c .before .before .before .before .before .before in sym (length-take-le _ (first .args .carried .left) (omega (arith, sized first)))
+slice-aggregate-run-raw c =
+    let taken = c .before .before .before in
+    let first = taken .before .before .before in
+    sym (length-take-le _ (first .args .carried .left) (omega (arith, sized first)))
 
 ran : (w : tie.After-run-raw)
     → let a = start w .args in Run (a .r) (a .carried) (a .bytes .now) (a .out .now) (w .run-raw .result) (w .run-raw .last .1 .1 .1 .1 .0)

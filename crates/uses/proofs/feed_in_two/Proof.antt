@@ -72,7 +72,7 @@ part-feed-start-2 c = sub-feed-2 c
 
 -- the first call, from after the second
 abbrev once : tie.After-feed3 → tie.After-feed2
-once c = c .before .before .before .before .before .before
+once c = let cut-again = c .before .before .before in cut-again .before .before .before
 
 abbrev left-after : tie.After-feed3 → List ℕ
 left-after c = c .feed3 .last .1 .1 .1 .0
@@ -89,7 +89,7 @@ second c =
     (c .feed3 .ensures)
 
 abbrev both : tie.After-struct-known3 → tie.After-feed3
-both c = c .before .before .before .before .before
+both c = let summed = c .before .before in summed .before .before .before
 
 add-done : tie.Need-add-done
 add-done c = let k = once (both c) in omega (arith, done-inside _ (told (cut k)) (k .feed2 .ensures) (second (both c)))

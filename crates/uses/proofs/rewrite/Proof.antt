@@ -11,11 +11,12 @@ returns c = let n = c .before in read-refused (n .before .read .ensures) (λ z. 
 
 returns-2 : tie.Need-returns-2
 returns-2 c =
-    let e = c .before .before .before .before .before in
+    let written = c .before .before in
+    let e = written .before .before .before in
     let n = e .before in
     let known = n .before .before .before in
     let bytes = bytes-held (known .before .args .bytes .now) (known .shared-slice-known .given) in
-    read-accepted (n .before .read .ensures) bytes (sym (n .number .ensures) ∙ e .if1 .left) (c .before .before .write .ensures)
+    read-accepted (n .before .read .ensures) bytes (sym (n .number .ensures) ∙ e .if1 .left) (written .write .ensures)
 
 pub rewrite-spec : {M : Type 1} → statement M
 rewrite-spec = tie.close (tie.spec (λ c κs. search needs) (λ c κs. search needs) returns (λ c κs. search needs) (λ c. search needs) returns-2)

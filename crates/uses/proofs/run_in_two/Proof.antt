@@ -86,7 +86,7 @@ part-run-start-2 : tie.Need-part-run-start-2
 part-run-start-2 c = sub-run-2 c
 
 abbrev done : tie.After-output3 → tie.Else2
-done c = c .before .before .before .before .before
+done c = let cut-again = c .before .before in cut-again .before .before .before
 
 abbrev left-after : tie.After-output3 → List ℤ
 left-after c = c .before .run3 .last .1 .1 .1 .0
