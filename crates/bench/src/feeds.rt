@@ -1,32 +1,29 @@
 // Takes: two samples fed whole, in threes and byte by byte, a refused sample and what comes after it, and both sides of each limit of a take.
-use crate::expected::Expected;
-use crate::expected::agrees;
-use crate::expected::answered;
-use crate::expected::done;
-use crate::expected::refused;
+ghost use Prim.Native.Nat.{_<_, _≤_};
+use crate::labels;
 use crate::make;
 use crate::make::case_1;
 use crate::make::case_8;
 use crate::show;
-use crate::tally;
 use crate::tally::Tally;
+use crate::tally::agrees;
+use crate::tally::answered;
+use crate::tally::counted;
 use crate::work::is_stored;
+use crate::work::same;
 use crate::work::stored;
-use crate::work::stored_in;
+use circuit::Answer;
 use circuit::Carried;
 use circuit::Feed;
 use circuit::Record;
 use circuit::SOURCE_LIMIT;
-use circuit::State;
 use circuit::TAKE_LIMIT;
 
 // What stands in a byte of the room before a call.
 const BEFORE: u8 = 77;
 
-// Two samples, an output, and room for two.
+// Two samples, and room for their outputs.
 type Samples = [u8; 6];
-
-type Output = [u8; 4];
 
 type Room = [u8; 8];
 
@@ -36,74 +33,40 @@ struct Fed {
     room: Room,
 }
 
-pub fn cases(t: Tally) -> Tally {
-    let t = cut(t);
-    let t = refused_sample(t);
-    let t = later_calls(t);
-    let t = carried_limits(t);
-    let t = rooms(t);
-    endings(t)
+// 4000 and 0: the outputs are 2000 and -1000.
+pub fn cases(mut t: Tally) -> Tally {
+    let r = case_8();
+    let bytes = [160, 15, 0, 0, 0, 0];
+    let room = [208, 7, 0, 0, 24, 252, 255, 255];
+    t = take_shown(t, in_pieces(r, bytes, 6), 0, 0, 2, -1000, room);
+    t = take_shown(t, in_pieces(r, bytes, 3), 0, 0, 2, -1000, room);
+    t = take_shown(t, in_pieces(r, bytes, 1), 0, 0, 2, -1000, room);
+    endings(limits(refused_sample(t)))
 }
 
-fn whole(r: Record, bytes: Samples) -> Fed {
+// Two samples fed in pieces of this many bytes, each with room for the outputs of the samples that it makes whole.
+fn in_pieces(r: Record, bytes: Samples, piece: usize) -> Fed
+    requires { ⌜ (0 < piece) × (piece ≤ 6) ⌝ }
+{
     let mut room = [BEFORE; 8];
-    let feed = takes::feed(r, takes::start(), &bytes, &mut room);
+    let mut feed = Feed {
+        answer: Answer::Done,
+        done: 0,
+        carried: takes::start(),
+    };
+    let mut at: usize = 0;
+    while at + piece <= 6 {
+        let end = at + piece;
+        let carried = feed.carried;
+        feed = takes::feed(
+            r,
+            carried,
+            &bytes[at..end],
+            &mut room[at / 3 * 4..end / 3 * 4],
+        );
+        at = end;
+    }
     Fed { feed, room }
-}
-
-fn joined(a: Output, b: Output) -> Room {
-    [a[0], a[1], a[2], a[3], b[0], b[1], b[2], b[3]]
-}
-
-fn in_threes(r: Record, bytes: Samples) -> Fed {
-    let three = [bytes[0], bytes[1], bytes[2]];
-    let mut before = [BEFORE; 4];
-    let first = takes::feed(r, takes::start(), &three, &mut before);
-    let carried = first.carried;
-    let three = [bytes[3], bytes[4], bytes[5]];
-    let mut after = [BEFORE; 4];
-    let feed = takes::feed(r, carried, &three, &mut after);
-    Fed {
-        feed,
-        room: joined(before, after),
-    }
-}
-
-fn one_byte(r: Record, carried: Carried, b: u8, out: &mut [u8]) -> Feed {
-    let one = [b];
-    takes::feed(r, carried, &one, out)
-}
-
-// What is carried after a byte that makes no sample whole.
-fn byte_on(r: Record, carried: Carried, b: u8) -> Carried {
-    let mut none = [0u8; 0];
-    let feed = one_byte(r, carried, b, &mut none);
-    feed.carried
-}
-
-fn byte_by_byte(r: Record, bytes: Samples) -> Fed {
-    let carried = byte_on(r, takes::start(), bytes[0]);
-    let carried = byte_on(r, carried, bytes[1]);
-    let mut before = [BEFORE; 4];
-    let first = one_byte(r, carried, bytes[2], &mut before);
-    let carried = first.carried;
-    let carried = byte_on(r, carried, bytes[3]);
-    let carried = byte_on(r, carried, bytes[4]);
-    let mut after = [BEFORE; 4];
-    let feed = one_byte(r, carried, bytes[5], &mut after);
-    Fed {
-        feed,
-        room: joined(before, after),
-    }
-}
-
-fn same_output(a: Output, b: Output) -> bool {
-    (a[0] == b[0]) & (a[1] == b[1]) & (a[2] == b[2]) & (a[3] == b[3])
-}
-
-fn same_room(a: Room, b: Room) -> bool {
-    same_output([a[0], a[1], a[2], a[3]], [b[0], b[1], b[2], b[3]])
-        & same_output([a[4], a[5], a[6], a[7]], [b[4], b[5], b[6], b[7]])
 }
 
 // No byte is left over.
@@ -114,9 +77,9 @@ fn ends_as(c: Carried, samples: u64, held: u64, wave: i32) -> bool {
 
 fn take_shown(
     t: Tally,
-    label: &[u8],
     f: Fed,
-    e: Expected,
+    number: u64,
+    place: u64,
     samples: u64,
     wave: i32,
     room: Room,
@@ -126,93 +89,32 @@ fn take_shown(
     let carried = feed.carried;
     let state = carried.state;
     let written = f.room;
-    show::text(label);
-    show::text(b": ");
+    labels::named(t);
     show::answer(answer);
-    show::text(b", samples done ");
-    show::number(carried.done);
-    show::text(b", stored ");
-    show::microvolts(stored_in(state));
-    let handed = agrees(answer, e) & ends_as(carried, samples, e.number, wave);
-    tally::counted(t, handed & same_room(written, room))
+    show::samples_done(carried.done);
+    show::stored(state);
+    let handed = agrees(answer, number, place) & ends_as(carried, samples, number, wave);
+    counted(t, handed & same(&written, &room))
 }
 
-// 4000 and 0: the outputs are 2000 and -1000.
-fn cut(t: Tally) -> Tally {
-    let r = case_8();
-    let bytes = [160, 15, 0, 0, 0, 0];
-    let room = [208, 7, 0, 0, 24, 252, 255, 255];
-    let t = take_shown(
-        t,
-        b"case 8, samples 4000 and 0 fed whole",
-        whole(r, bytes),
-        done(),
-        2,
-        -1000,
-        room,
-    );
-    let t = take_shown(
-        t,
-        b"case 8, samples 4000 and 0 fed in threes",
-        in_threes(r, bytes),
-        done(),
-        2,
-        -1000,
-        room,
-    );
-    take_shown(
-        t,
-        b"case 8, samples 4000 and 0 fed byte by byte",
-        byte_by_byte(r, bytes),
-        done(),
-        2,
-        -1000,
-        room,
-    )
-}
-
-// 0 and 1: with 0 the diode gets 67108864 microvolts, and with 1 one more.
-fn loud() -> Record {
-    make::sources(-SOURCE_LIMIT)
-}
-
-fn refused_sample(t: Tally) -> Tally {
-    let r = loud();
+// 0 and 1: with 0 the diode gets 67108864 microvolts, and with 1 one more. A call after it has a sample at hand, with and without room for
+// its output.
+fn refused_sample(mut t: Tally) -> Tally {
+    let r = make::sources(-SOURCE_LIMIT);
     let bytes = [0, 0, 0, 1, 0, 0];
     let room = [208, 7, 0, 0, BEFORE, BEFORE, BEFORE, BEFORE];
-    let t = take_shown(
-        t,
-        b"67108864 and then 67108865 microvolts, fed whole",
-        whole(r, bytes),
-        refused(15, 1),
-        1,
-        0,
-        room,
-    );
-    let t = take_shown(
-        t,
-        b"67108864 and then 67108865 microvolts, fed in threes",
-        in_threes(r, bytes),
-        refused(15, 1),
-        1,
-        0,
-        room,
-    );
-    take_shown(
-        t,
-        b"67108864 and then 67108865 microvolts, fed byte by byte",
-        byte_by_byte(r, bytes),
-        refused(15, 1),
-        1,
-        0,
-        room,
-    )
+    t = take_shown(t, in_pieces(r, bytes, 6), 15, 1, 1, 0, room);
+    t = take_shown(t, in_pieces(r, bytes, 3), 15, 1, 1, 0, room);
+    t = take_shown(t, in_pieces(r, bytes, 1), 15, 1, 1, 0, room);
+    let after = carrying(0, 0, 1, 15);
+    t = call(t, r, after, 3, 4, 15, 1);
+    call(t, r, after, 3, 0, 15, 1)
 }
 
-// Bytes left over, samples done and a refusal held.
-fn carrying(state: State, count: u8, samples: u64, held: u8) -> Carried {
+// A wave in row 1, bytes left over, samples done and a refusal held.
+fn carrying(wave: i32, count: u8, samples: u64, held: u8) -> Carried {
     Carried {
-        state,
+        state: stored(wave),
         left: [8, 9],
         count,
         done: samples,
@@ -220,155 +122,48 @@ fn carrying(state: State, count: u8, samples: u64, held: u8) -> Carried {
     }
 }
 
-fn fresh(count: u8, samples: u64, held: u8) -> Carried {
-    carrying(setup::fresh(), count, samples, held)
-}
-
-// A call with these bytes and this much room, of which nothing is kept.
+// A call with this many bytes, all of them 0, and room for this many.
 fn call(
     t: Tally,
-    label: &[u8],
     r: Record,
     carried: Carried,
-    bytes: &[u8],
-    out: &mut [u8],
-    e: Expected,
-) -> Tally {
-    let feed = takes::feed(r, carried, bytes, out);
+    bytes: usize,
+    out: usize,
+    number: u64,
+    place: u64,
+) -> Tally
+    requires { ⌜ (bytes ≤ 3) × (out ≤ 8) ⌝ }
+{
+    let zeros = [0u8; 3];
+    let mut room = [BEFORE; 8];
+    let feed = takes::feed(r, carried, &zeros[..bytes], &mut room[..out]);
     let answer = feed.answer;
-    answered(t, label, answer, e)
+    answered(t, answer, number, place)
 }
 
-// A sample is at hand, with and without room for its output.
-fn later_calls(t: Tally) -> Tally {
-    let bytes = [0u8; 3];
-    let mut room = [BEFORE; 4];
-    let t = call(
-        t,
-        b"a call after a refused sample",
-        loud(),
-        fresh(0, 1, 15),
-        &bytes,
-        &mut room,
-        refused(15, 1),
-    );
-    let mut none = [0u8; 0];
-    call(
-        t,
-        b"a call without room after a refused sample",
-        loud(),
-        fresh(0, 1, 15),
-        &bytes,
-        &mut none,
-        refused(15, 1),
-    )
+// What is carried, in a call with no byte and no room; then the room, where one byte is left over, so that two more make a sample and one does
+// not.
+fn limits(mut t: Tally) -> Tally {
+    let r = case_1();
+    t = call(t, r, carrying(0, 2, 0, 0), 0, 0, 0, 0);
+    t = call(t, r, carrying(0, 3, 0, 0), 0, 0, 12, 255);
+    t = call(t, r, carrying(0, 0, TAKE_LIMIT, 0), 0, 0, 0, 0);
+    t = call(t, r, carrying(0, 0, TAKE_LIMIT + 1, 0), 0, 0, 12, 255);
+    t = call(t, r, carrying(0, 0, 0, 14), 0, 0, 12, 255);
+    t = call(t, r, carrying(0, 2, 6, 15), 0, 0, 15, 6);
+    t = call(t, r, carrying(1, 3, 0, 15), 0, 0, 12, 1);
+    let left = carrying(0, 1, 0, 0);
+    t = call(t, r, left, 2, 4, 0, 0);
+    t = call(t, r, left, 2, 3, 16, 0);
+    t = call(t, r, left, 2, 8, 16, 0);
+    call(t, r, left, 1, 4, 16, 0)
 }
 
-fn nothing(t: Tally, label: &[u8], carried: Carried, e: Expected) -> Tally {
-    let none = [0u8; 0];
-    let mut nowhere = [0u8; 0];
-    call(t, label, case_1(), carried, &none, &mut nowhere, e)
-}
-
-fn carried_limits(t: Tally) -> Tally {
-    let t = nothing(t, b"two bytes left over", fresh(2, 0, 0), done());
-    let t = nothing(
-        t,
-        b"three bytes left over",
-        fresh(3, 0, 0),
-        refused(12, 255),
-    );
-    let t = nothing(t, b"2^62 samples done", fresh(0, TAKE_LIMIT, 0), done());
-    let t = nothing(
-        t,
-        b"2^62 + 1 samples done",
-        fresh(0, TAKE_LIMIT + 1, 0),
-        refused(12, 255),
-    );
-    let t = nothing(
-        t,
-        b"a held refusal of 14",
-        fresh(0, 0, 14),
-        refused(12, 255),
-    );
-    let t = nothing(t, b"a held refusal of 15", fresh(2, 6, 15), refused(15, 6));
-    nothing(
-        t,
-        b"three bytes left over and a wave in a resistor",
-        carrying(stored(1), 3, 0, 15),
-        refused(12, 1),
-    )
-}
-
-// One byte is left over and these come: two make a sample, and one does not.
-fn room(t: Tally, label: &[u8], bytes: &[u8], out: &mut [u8], e: Expected) -> Tally {
-    call(t, label, case_1(), fresh(1, 0, 0), bytes, out, e)
-}
-
-fn rooms(t: Tally) -> Tally {
-    let one = [0u8; 1];
-    let two = [0u8; 2];
-    let mut three = [BEFORE; 3];
-    let mut four = [BEFORE; 4];
-    let mut eight = [BEFORE; 8];
-    let t = room(
-        t,
-        b"a sample and room for one output",
-        &two,
-        &mut four,
-        done(),
-    );
-    let t = room(
-        t,
-        b"a sample and room for three bytes",
-        &two,
-        &mut three,
-        refused(16, 0),
-    );
-    let t = room(
-        t,
-        b"a sample and room for two outputs",
-        &two,
-        &mut eight,
-        refused(16, 0),
-    );
-    room(
-        t,
-        b"no sample and room for one output",
-        &one,
-        &mut four,
-        refused(16, 0),
-    )
-}
-
-fn ending(t: Tally, label: &[u8], carried: Carried, e: Expected) -> Tally {
-    answered(t, label, takes::finish(case_1(), carried), e)
-}
-
-fn endings(t: Tally) -> Tally {
-    let t = ending(
-        t,
-        b"the end of a take without a byte",
-        takes::start(),
-        done(),
-    );
-    let t = ending(t, b"the end after 6 samples", fresh(0, 6, 0), done());
-    let t = ending(
-        t,
-        b"the end after 6 samples and a byte",
-        fresh(1, 6, 0),
-        refused(17, 6),
-    );
-    let t = ending(
-        t,
-        b"the end after a refused sample",
-        fresh(1, 6, 15),
-        refused(15, 6),
-    );
-    ending(
-        t,
-        b"the end with three bytes left over",
-        fresh(3, 6, 15),
-        refused(12, 255),
-    )
+fn endings(mut t: Tally) -> Tally {
+    let r = case_1();
+    t = answered(t, takes::finish(r, takes::start()), 0, 0);
+    t = answered(t, takes::finish(r, carrying(0, 0, 6, 0)), 0, 0);
+    t = answered(t, takes::finish(r, carrying(0, 1, 6, 0)), 17, 6);
+    t = answered(t, takes::finish(r, carrying(0, 1, 6, 15)), 15, 6);
+    answered(t, takes::finish(r, carrying(0, 3, 6, 15)), 12, 255)
 }

@@ -3,101 +3,74 @@
 ghost use Prim.Native.Nat.{_<_, _≤_};
 ghost use lib.ListN.{length};
 ghost use Rattle.circuit.specs.File.{fileLength};
-use crate::expected::Expected;
-use crate::expected::agrees;
-use crate::expected::answered;
-use crate::expected::done;
-use crate::expected::refused;
+use crate::labels;
 use crate::make;
 use crate::make::case_1;
-use crate::show;
-use crate::tally;
 use crate::tally::Tally;
+use crate::tally::agrees;
+use crate::tally::answered;
+use crate::tally::counted;
+use crate::work::same;
 use circuit::BLOCK_LENGTH;
 use circuit::CHECK_PLACE;
 use circuit::FILE_LENGTH;
 
 type File = [u8; FILE_LENGTH];
 
-// Where rows 0 to 3, column 0 and column 3 stand.
-const ROW_0: usize = BLOCK_LENGTH;
+// Where block 2 stands, rows 1 to 3 in block 1, and column 3 in block 2.
+const BLOCK_2: usize = 2 * BLOCK_LENGTH;
 
-const ROW_1: usize = BLOCK_LENGTH + 16;
+const ROW_1: usize = 16;
 
-const ROW_2: usize = BLOCK_LENGTH + 32;
+const ROW_2: usize = 32;
 
-const ROW_3: usize = BLOCK_LENGTH + 48;
+const ROW_3: usize = 48;
 
-const COLUMN_0: usize = 2 * BLOCK_LENGTH;
+const COLUMN_3: usize = 24;
 
-const COLUMN_3: usize = 2 * BLOCK_LENGTH + 24;
-
-pub fn cases(t: Tally) -> Tally {
+pub fn cases(mut t: Tally) -> Tally {
     let mut file = [0u8; FILE_LENGTH];
     let answer = file::write(case_1(), &mut file);
-    let t = answered(t, b"file of case 1, written", answer, done());
-    let t = read(t, b"file of case 1, read back", &file, done());
-    let t = written_again(t, file);
-    let t = checks(t, file);
-    let t = spoiled(t, file);
-    let t = heading(t, file);
-    let t = rows(t, file);
-    let t = behind(t, file);
-    refused_writes(t)
+    t = answered(t, answer, 0, 0);
+    t = read(t, &file, 0, 0);
+    t = written_again(t, &file);
+    refused_writes(unused(spoiled(checks(t, file), file), file))
 }
 
-fn read(t: Tally, label: &[u8], s: &[u8], e: Expected) -> Tally {
+fn read(t: Tally, s: &[u8], number: u64, place: u64) -> Tally {
     let reading = file::read(s);
     let answer = reading.answer;
-    answered(t, label, answer, e)
-}
-
-fn same(a: File, b: File) -> bool {
-    let mut all = true;
-    for i in 0..FILE_LENGTH {
-        all = all & (a[i] == b[i]);
-    }
-    all
+    answered(t, answer, number, place)
 }
 
 // What reading hands back is written to the same bytes.
-fn written_again(t: Tally, file: File) -> Tally {
-    let reading = file::read(&file);
+fn written_again(mut t: Tally, file: &[u8]) -> Tally {
+    let reading = file::read(file);
     let record = reading.record;
     let mut again = [0u8; FILE_LENGTH];
     let answer = file::write(record, &mut again);
-    let t = answered(t, b"file of case 1, written again", answer, done());
-    show::text(b"file of case 1, written again: the same bytes");
-    tally::counted(t, same(file, again))
+    t = answered(t, answer, 0, 0);
+    labels::named(t);
+    counted(t, same(file, &again))
 }
 
 // A block 2 of zeros, but for the lowest byte of its check.
 fn cleared(mut file: File, check: u8) -> File {
-    let mut i = COLUMN_0;
+    let mut i = BLOCK_2;
     while i < FILE_LENGTH {
         file[i] = 0;
         i += 1;
     }
-    file[COLUMN_0 + CHECK_PLACE] = check;
+    file[BLOCK_2 + CHECK_PLACE] = check;
     file
 }
 
 // Where the check is right, what is refused is that the columns do not rise.
-fn checks(t: Tally, file: File) -> Tally {
+fn checks(mut t: Tally, file: File) -> Tally {
     let wrong = cleared(file, 2);
-    let t = read(
-        t,
-        b"case 11, a block 2 of zeros with check 2",
-        &wrong,
-        refused(2, 2),
-    );
+    t = read(t, &wrong, 2, 2);
     let right = cleared(file, 3);
-    read(
-        t,
-        b"case 11, a block 2 of zeros with check 3",
-        &right,
-        refused(10, 1),
-    )
+    read(t, &right, 10, 1)
 }
 
 // The number in the bytes from `at` up to `end`, one up, modulo its range.
@@ -122,7 +95,7 @@ fn is_wrong_check(file: File, at: usize) -> bool
     raise(&mut s, at, at + 1);
     let reading = file::read(&s);
     let answer = reading.answer;
-    agrees(answer, refused(2, (at / BLOCK_LENGTH) as u64))
+    agrees(answer, 2, (at / BLOCK_LENGTH) as u64)
 }
 
 // With steps of 17 bytes each place in a row and in a column is met.
@@ -133,72 +106,51 @@ fn spoiled(t: Tally, file: File) -> Tally {
         all = all & is_wrong_check(file, at);
         at += 17;
     }
-    show::text(b"file of case 1, each 17th byte in turn one up: refused 2 at its block");
-    tally::counted(t, all)
+    labels::named(t);
+    counted(t, all)
 }
 
 // A byte one up is its word up by a power of 256, and so is the check.
-fn resealed(t: Tally, label: &[u8], file: File, at: usize, e: Expected) -> Tally
-    requires { ⌜ at < fileLength ⌝ }
+fn resealed(t: Tally, file: File, block: usize, place: usize, number: u64) -> Tally
+    requires { ⌜ (block < 3) × (place < 508) ⌝ }
 {
     let mut s = file;
+    let from = block * BLOCK_LENGTH;
+    let at = from + place;
     raise(&mut s, at, at + 1);
-    let block = at / BLOCK_LENGTH * BLOCK_LENGTH;
-    raise(&mut s, block + CHECK_PLACE + at % 4, block + BLOCK_LENGTH);
-    read(t, label, &s, e)
+    raise(&mut s, from + CHECK_PLACE + place % 4, from + BLOCK_LENGTH);
+    read(t, &s, number, 0)
 }
 
-// A byte that should be as it is.
-fn unused(t: Tally, label: &[u8], file: File, at: usize) -> Tally
-    requires { ⌜ at < fileLength ⌝ }
-{
-    resealed(t, label, file, at, refused(4, 0))
-}
-
-fn heading(t: Tally, file: File) -> Tally {
-    let t = resealed(t, b"version 2", file, 0, refused(3, 0));
-    let t = unused(t, b"curve kind 3", file, 4);
-    let t = unused(t, b"a byte between column count and rate", file, 6);
-    let t = unused(t, b"a byte between rate and resistance", file, 12);
-    unused(t, b"a byte behind the heading", file, CHECK_PLACE - 1)
-}
-
-fn rows(t: Tally, file: File) -> Tally {
-    let t = unused(t, b"a first child of an input", file, ROW_0 + 1);
-    let t = unused(t, b"a second child of a resistor", file, ROW_1 + 2);
-    let t = unused(t, b"microvolts of a resistor", file, ROW_1 + 4);
-    let t = unused(t, b"the zero of an adaptor's row", file, ROW_2 + 3);
-    let t = unused(t, b"a value of an adaptor", file, ROW_2 + 15);
-    let t = unused(t, b"a value of a blank row", file, ROW_3 + 8);
-    unused(t, b"a resistor past the row count, in a file", file, ROW_3)
-}
-
-fn behind(t: Tally, file: File) -> Tally {
-    let t = unused(t, b"a byte behind the rows", file, COLUMN_0 - 16);
-    let t = unused(
-        t,
-        b"a column past the column count, in a file",
-        file,
-        COLUMN_3,
-    );
-    unused(
-        t,
-        b"a byte behind the columns",
-        file,
-        COLUMN_0 + CHECK_PLACE - 1,
-    )
+// The version, and bytes that should be as they are: in the heading and behind it, in the rows, and in the columns.
+fn unused(mut t: Tally, file: File) -> Tally {
+    t = resealed(t, file, 0, 0, 3);
+    t = resealed(t, file, 0, 4, 4);
+    t = resealed(t, file, 0, 6, 4);
+    t = resealed(t, file, 0, 12, 4);
+    t = resealed(t, file, 0, CHECK_PLACE - 1, 4);
+    t = resealed(t, file, 1, 1, 4);
+    t = resealed(t, file, 1, ROW_1 + 2, 4);
+    t = resealed(t, file, 1, ROW_1 + 4, 4);
+    t = resealed(t, file, 1, ROW_2 + 3, 4);
+    t = resealed(t, file, 1, ROW_2 + 15, 4);
+    t = resealed(t, file, 1, ROW_3 + 8, 4);
+    t = resealed(t, file, 1, ROW_3, 4);
+    t = resealed(t, file, 1, BLOCK_LENGTH - 16, 4);
+    t = resealed(t, file, 2, COLUMN_3, 4);
+    resealed(t, file, 2, CHECK_PLACE - 1, 4)
 }
 
 // A write that is refused leaves the buffer.
-fn refused_writes(t: Tally) -> Tally {
+fn refused_writes(mut t: Tally) -> Tally {
     let mut small = [7u8; FILE_LENGTH - 1];
     let answer = file::write(case_1(), &mut small);
-    let t = answered(t, b"written to 1535 bytes", answer, refused(1, 0));
-    let t = read(t, b"1535 bytes read", &small, refused(1, 0));
+    t = answered(t, answer, 1, 0);
+    t = read(t, &small, 1, 0);
     let before = [7u8; FILE_LENGTH];
     let mut after = before;
     let answer = file::write(make::with_rate(case_1(), 7999), &mut after);
-    let t = answered(t, b"written with rate 7999", answer, refused(5, 0));
-    show::text(b"written with rate 7999: the buffer is as it was");
-    tally::counted(t, same(before, after))
+    t = answered(t, answer, 5, 0);
+    labels::named(t);
+    counted(t, same(&before, &after))
 }

@@ -1,8 +1,8 @@
 // The bench: the cases of the paper's table, both sides of each limit, and what a refusal leaves, through the functions that anyone can
 // call. A line says what a case hands back; the last line, how many cases agree with what they should be.
-mod expected;
 mod feeds;
 mod files;
+mod labels;
 mod make;
 mod runs;
 mod samples;
@@ -11,12 +11,14 @@ mod show;
 mod tally;
 mod work;
 
+use crate::tally::Tally;
+
 fn main() {
-    let t = tally::none();
-    let t = set_ups::cases(t);
-    let t = samples::cases(t);
-    let t = runs::cases(t);
-    let t = files::cases(t);
-    let t = feeds::cases(t);
+    let mut t = Tally { cases: 0, agree: 0 };
+    t = set_ups::cases(t);
+    t = samples::cases(t);
+    t = runs::cases(t);
+    t = files::cases(t);
+    t = feeds::cases(t);
     tally::shown(t);
 }

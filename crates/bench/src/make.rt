@@ -1,4 +1,5 @@
-// The bench's circuits. Every one has the rate 48,000 and curve K, a pair, unless it is said.
+// The bench's circuits. Every one has the rate 48,000 and curve K, a pair, unless it is said. Row 0 is an input, and each leaf after it is
+// joined with all that is before it.
 ghost use Prim.Native.Nat.{_+_, _<_};
 ghost use Rattle.circuit.specs.Record.{rowLimit};
 use circuit::Adaptor;
@@ -14,11 +15,9 @@ use circuit::Row;
 use circuit::SOURCE_LIMIT;
 use circuit::TOP;
 
-fn leaf(e: Element) -> Row {
-    Row {
-        part: Part::Leaf(e),
-    }
-}
+type Rows = [Row; ROWS];
+
+type Columns = [Column; COLUMNS];
 
 fn adaptor(join: Join, first: u8, second: u8) -> Row {
     let a = Adaptor {
@@ -31,18 +30,45 @@ fn adaptor(join: Join, first: u8, second: u8) -> Row {
     }
 }
 
-fn no_rows() -> [Row; ROWS] {
-    [Row { part: Part::Blank }; ROWS]
+// An input of this many ohms in row 0.
+fn input(ohms: f64) -> Rows {
+    let mut rows = [Row { part: Part::Blank }; ROWS];
+    rows[0] = Row {
+        part: Part::Leaf(Element::Input(ohms)),
+    };
+    rows
 }
 
-fn no_columns() -> [Column; COLUMNS] {
+// A leaf in row j, and in the row after it the adaptor that joins it with row j - 1.
+fn joined(mut rows: Rows, j: usize, join: Join, e: Element) -> Rows
+    requires { ⌜ (0 < j) × (j + 1 < rowLimit) ⌝ }
+{
+    rows[j] = Row {
+        part: Part::Leaf(e),
+    };
+    rows[j + 1] = adaptor(join, (j - 1) as u8, j as u8);
+    rows
+}
+
+fn no_columns() -> Columns {
     [Column { x: 0, y: 0 }; COLUMNS]
 }
 
-fn circuit(rows: [Row; ROWS], count: u8, tap: u8, resistance: f64) -> Record {
+// Two columns from the one at `from`, and (0, 0) elsewhere.
+fn curve(from: usize, x: i32, y: i32, next_x: i32, next_y: i32) -> Columns
+    requires { ⌜ from < 2 ⌝ }
+{
     let mut columns = no_columns();
-    columns[1] = Column { x: 1000, y: 1000 };
-    columns[2] = Column { x: 2000, y: 0 };
+    columns[from] = Column { x, y };
+    columns[from + 1] = Column {
+        x: next_x,
+        y: next_y,
+    };
+    columns
+}
+
+fn circuit(rows: Rows, count: u8, tap: u8, resistance: f64) -> Record {
+    let columns = curve(1, 1000, 1000, 2000, 0);
     Record {
         rate: 48000,
         count,
@@ -55,133 +81,98 @@ fn circuit(rows: [Row; ROWS], count: u8, tap: u8, resistance: f64) -> Record {
     }
 }
 
-// Two leaves in rows 0 and 1, joined in row 2, with the tap at row 1.
-pub fn two(first: Element, second: Element, join: Join, resistance: f64) -> Record {
-    let mut rows = no_rows();
-    rows[0] = leaf(first);
-    rows[1] = leaf(second);
-    rows[2] = adaptor(join, 0, 1);
-    circuit(rows, 3, 1, resistance)
+// An input and another leaf, tapped at that leaf.
+fn two(ohms: f64, join: Join, second: Element, resistance: f64) -> Record {
+    circuit(joined(input(ohms), 1, join, second), 3, 1, resistance)
+}
+
+// An input and a resistor.
+pub fn parallel(ohms: f64, resistor: f64, resistance: f64) -> Record {
+    two(
+        ohms,
+        Join::Parallel,
+        Element::Resistor(resistor),
+        resistance,
+    )
+}
+
+pub fn series(ohms: f64, resistor: f64, resistance: f64) -> Record {
+    two(ohms, Join::Series, Element::Resistor(resistor), resistance)
 }
 
 pub fn case_1() -> Record {
-    two(
-        Element::Input(1000.0),
-        Element::Resistor(3000.0),
-        Join::Parallel,
-        750.0,
-    )
+    parallel(1000.0, 3000.0, 750.0)
 }
 
 pub fn case_6() -> Record {
-    two(
-        Element::Input(1000.0),
-        Element::Resistor(3000.0),
-        Join::Series,
-        4000.0,
-    )
+    series(1000.0, 3000.0, 4000.0)
+}
+
+// Case 1 with another leaf in the place of its resistor.
+pub fn case_1_with(second: Element) -> Record {
+    two(1000.0, Join::Parallel, second, 750.0)
 }
 
 pub fn case_8() -> Record {
-    two(
-        Element::Input(250.0),
-        Element::Inductor(0.0078125),
-        Join::Parallel,
-        187.5,
-    )
-}
-
-// An adaptor below another: input 1000 ohms and resistor 3000 ohms in parallel, and with a resistor of 250 ohms in series.
-pub fn nested(tap: u8) -> Record {
-    let mut rows = no_rows();
-    rows[0] = leaf(Element::Input(1000.0));
-    rows[1] = leaf(Element::Resistor(3000.0));
-    rows[2] = adaptor(Join::Parallel, 0, 1);
-    rows[3] = leaf(Element::Resistor(250.0));
-    rows[4] = adaptor(Join::Series, 2, 3);
-    circuit(rows, 5, tap, 1000.0)
-}
-
-// At the rate 32,768 the capacitor's port resistance is that of the input, and the ratio a half.
-pub fn capacitor() -> Record {
-    with_rate(
-        two(
-            Element::Input(1024.0),
-            Element::Capacitor(0.000000014901161193847656),
-            Join::Parallel,
-            512.0,
-        ),
-        32768,
-    )
+    two(250.0, Join::Parallel, Element::Inductor(0.0078125), 187.5)
 }
 
 // The inductor has fifteen times the input's port resistance, so the top's wave is nearly the input's, whatever the inductor sends.
 pub fn large_inductor() -> Record {
-    two(
-        Element::Input(250.0),
-        Element::Inductor(0.0390625),
-        Join::Parallel,
-        234.375,
-    )
+    two(250.0, Join::Parallel, Element::Inductor(0.0390625), 234.375)
+}
+
+// At the rate 32,768 the capacitor's port resistance is that of the input, and the ratio a half.
+pub fn capacitor() -> Record {
+    let c = Element::Capacitor(0.000000014901161193847656);
+    with_rate(two(1024.0, Join::Parallel, c, 512.0), 32768)
+}
+
+// An adaptor below another: input 1000 ohms and resistor 3000 ohms in parallel, and with a resistor of 250 ohms in series.
+pub fn nested() -> Record {
+    let rows = input(1000.0);
+    let rows = joined(rows, 1, Join::Parallel, Element::Resistor(3000.0));
+    let rows = joined(rows, 3, Join::Series, Element::Resistor(250.0));
+    circuit(rows, 5, TOP, 1000.0)
 }
 
 // One input row against the diode, tapped there.
 pub fn alone() -> Record {
-    let mut rows = no_rows();
-    rows[0] = leaf(Element::Input(1000.0));
-    circuit(rows, 1, TOP, 1000.0)
+    circuit(input(1000.0), 1, TOP, 1000.0)
 }
 
 // The same with a single of two columns.
-pub fn single(first: Column, second: Column) -> Record {
-    let mut rows = no_rows();
-    rows[0] = leaf(Element::Input(1000.0));
-    let mut columns = no_columns();
-    columns[0] = first;
-    columns[1] = second;
+pub fn single(x: i32, y: i32, next_x: i32, next_y: i32) -> Record {
     Record {
         rate: 48000,
         count: 1,
         tap: TOP,
-        rows,
+        rows: input(1000.0),
         kind: CurveKind::Single,
         width: 2,
-        columns,
+        columns: curve(0, x, y, next_x, next_y),
         resistance: 1000.0,
     }
 }
 
 // An input and four steady sources in series, tapped at the top. The sources add up where their signs alternate.
 pub fn sources(last: i32) -> Record {
-    let mut rows = no_rows();
-    rows[0] = leaf(Element::Input(1000.0));
-    rows[1] = leaf(Element::Steady(1000.0, SOURCE_LIMIT));
-    rows[2] = adaptor(Join::Series, 0, 1);
-    rows[3] = leaf(Element::Steady(1000.0, -SOURCE_LIMIT));
-    rows[4] = adaptor(Join::Series, 2, 3);
-    rows[5] = leaf(Element::Steady(1000.0, SOURCE_LIMIT));
-    rows[6] = adaptor(Join::Series, 4, 5);
-    rows[7] = leaf(Element::Steady(1000.0, last));
-    rows[8] = adaptor(Join::Series, 6, 7);
+    let up = Element::Steady(1000.0, SOURCE_LIMIT);
+    let down = Element::Steady(1000.0, -SOURCE_LIMIT);
+    let rows = joined(input(1000.0), 1, Join::Series, up);
+    let rows = joined(rows, 3, Join::Series, down);
+    let rows = joined(rows, 5, Join::Series, up);
+    let rows = joined(rows, 7, Join::Series, Element::Steady(1000.0, last));
     circuit(rows, 9, TOP, 5000.0)
-}
-
-// A resistor in row j, and in the row after it the adaptor that puts it in series with row j - 1.
-fn lengthened(mut rows: [Row; ROWS], j: usize) -> [Row; ROWS]
-    requires { ⌜ (0 < j) × (j + 1 < rowLimit) ⌝ }
-{
-    rows[j] = leaf(Element::Resistor(1000.0));
-    rows[j + 1] = adaptor(Join::Series, (j - 1) as u8, j as u8);
-    rows
 }
 
 // As many rows as there is room for: an input, and fifteen resistors, each in series with what is before it.
 pub fn longest() -> Record {
-    let mut rows = no_rows();
-    rows[0] = leaf(Element::Input(1000.0));
+    let mut rows = input(1000.0);
     let mut j: usize = 1;
     while j < ROWS - 1 {
-        rows = lengthened(rows, j);
+        let longer = joined(rows, j, Join::Series, Element::Resistor(1000.0));
+        rows = longer;
         j += 2;
     }
     circuit(rows, ROWS as u8, TOP, 16000.0)
@@ -213,27 +204,25 @@ pub fn with_children(mut r: Record, first: u8, second: u8) -> Record {
 // A resistor in row 3.
 pub fn with_row_3(mut r: Record) -> Record {
     let mut rows = r.rows;
-    rows[3] = leaf(Element::Resistor(1000.0));
+    rows[3] = Row {
+        part: Part::Leaf(Element::Resistor(1000.0)),
+    };
     r.rows = rows;
+    r
+}
+
+// A pair of three columns, the first at (0, 0).
+pub fn with_columns(mut r: Record, x: i32, y: i32, next_x: i32, next_y: i32) -> Record {
+    let columns = curve(1, x, y, next_x, next_y);
+    r.columns = columns;
     r
 }
 
 // A pair of two columns: (0, 0) and (x, y).
 pub fn with_column(mut r: Record, x: i32, y: i32) -> Record {
-    let mut columns = no_columns();
-    columns[1] = Column { x, y };
+    let columns = curve(0, 0, 0, x, y);
     r.columns = columns;
     r.width = 2;
-    r
-}
-
-// A pair of three columns, the first at (0, 0).
-pub fn with_columns(mut r: Record, second: Column, third: Column) -> Record {
-    let mut columns = no_columns();
-    columns[1] = second;
-    columns[2] = third;
-    r.columns = columns;
-    r.width = 3;
     r
 }
 

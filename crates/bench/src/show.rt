@@ -1,5 +1,6 @@
 // What the bench writes: words, numbers with their unit, and an answer as a reader says it.
 use circuit::Answer;
+use circuit::State;
 use libc::STDOUT_FILENO;
 
 // What stands in an output before a run.
@@ -7,6 +8,26 @@ pub const BEFORE: i32 = 77;
 
 pub fn text(t: &[u8]) {
     io::write_all(STDOUT_FILENO, t);
+}
+
+// The nth line of a text, the first being 0.
+pub fn line(s: &[u8], n: u64) {
+    let mut before = n;
+    let mut from: usize = 0;
+    let mut i: usize = 0;
+    while i < s.len() {
+        if s[i] == 10 {
+            if before == 0 {
+                text(&s[from..i]);
+                return;
+            }
+            before -= 1;
+            i += 1;
+            from = i;
+        } else {
+            i += 1;
+        }
+    }
 }
 
 pub fn number(n: u64) {
@@ -26,6 +47,18 @@ fn signed(n: i32) {
 pub fn microvolts(n: i32) {
     signed(n);
     text(b" microvolts");
+}
+
+// The wave in row 1, the only row of the bench's circuits that can store one.
+pub fn stored(state: State) {
+    let waves = state.waves;
+    text(b", stored ");
+    microvolts(waves[1]);
+}
+
+pub fn samples_done(n: u64) {
+    text(b", samples done ");
+    number(n);
 }
 
 // An output: twice a voltage is the sum of two waves, so its unit is half a wave's.
@@ -52,9 +85,9 @@ pub fn ohms(x: f64) {
 pub fn answer(a: Answer) {
     let n = a.number();
     if n == 0 {
-        text(b"done");
+        text(b": done");
     } else {
-        text(b"refused ");
+        text(b": refused ");
         number(n);
         text(b" at ");
         number(a.place());

@@ -1,5 +1,8 @@
-// How many cases there are, and how many agree with what they should be.
+// How many cases there are, and how many agree with what they should be. What a case should answer is the number and the place of a refusal
+// of the paper's table, and 0 and 0 where it is done.
+use crate::labels;
 use crate::show;
+use circuit::Answer;
 use std::num::wrapping_add_u64;
 
 pub struct Tally {
@@ -7,8 +10,15 @@ pub struct Tally {
     pub agree: u64,
 }
 
-pub fn none() -> Tally {
-    Tally { cases: 0, agree: 0 }
+pub fn agrees(a: Answer, number: u64, place: u64) -> bool {
+    (a.number() == number) & (a.place() == place)
+}
+
+// A case that hands back an answer and nothing else.
+pub fn answered(t: Tally, a: Answer, number: u64, place: u64) -> Tally {
+    labels::named(t);
+    show::answer(a);
+    counted(t, agrees(a, number, place))
 }
 
 // Ends a case's line.

@@ -1,9 +1,10 @@
-// A circuit with the waves that it starts from: rules 4 to 12, which every call that plays samples tries first, and the ports that it plays
-// with.
+// A circuit with the waves that it starts from: rules 4 to 12, which every call that plays samples tries first, the ports that it plays with,
+// and what it hands back where it is turned away.
 use circuit::Answer;
 use circuit::COLUMNS;
 use circuit::Part;
 use circuit::Ports;
+use circuit::Progress;
 use circuit::ROWS;
 use circuit::Record;
 use circuit::State;
@@ -105,4 +106,15 @@ pub fn answer(r: Record, state: State) -> Answer
     );
     let ports = check(h, &cells, &microvolts, &values, &xs, &ys, state);
     ports.answer
+}
+
+// What a call hands back that is refused before its first sample.
+pub fn turned_away(answer: Answer, state: State) -> Progress
+    ensures { λ p. ⌜ p ≡ record { answer = answer; done = 0; state = state } ⌝ }
+{
+    Progress {
+        answer,
+        done: 0,
+        state,
+    }
 }

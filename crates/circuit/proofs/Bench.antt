@@ -1,12 +1,11 @@
 -- "Bench table": the cases marked M, one table under one statement, found by working out the definitions. Beside it the shortcuts of the old
--- units, each at a case that tells it from the rule; a case for each operand of a sample that no marked case tells from another; and two
--- listings, from a file's bytes.
+-- units, each at a case that tells it from the rule, and a case for each operand of a sample that no marked case tells from another.
 use Prim.Native.Nat.{ℕ}
 use mathlib.Core.Path.{_≡_, refl, ap₂}
 use mathlib.Core.Bool.{Bool, true, false}
 use mathlib.Core.List.{List, [], _∷_, _++_, map}
 use lib.Dec.{eqb}
-use lib.ListN.{length, getD, set}
+use lib.ListN.{length, getD}
 use lib.IntN.{ℤ, pos, negsuc, _-ℤ_, _*ℤ_, natAbs}
 use lib.Ieee.{Float, fin}
 use Rattle.whole.specs.Fraction.{Fraction, whole}
@@ -15,9 +14,7 @@ use Rattle.circuit.specs.SetUp.{nothing, setUpReport, setUpRows}
 use Rattle.circuit.specs.Curve.{line, reflected}
 use Rattle.circuit.specs.Sample.{unrounded, output}
 use Rattle.circuit.specs.Run.{Ran}
-use Rattle.circuit.specs.File.{blockLength, bytes, checkOf, zeros, fileOf}
-use Rattle.circuit.specs.Text.{text}
-use Rattle.circuit.specs.Listing.{listing}
+use Rattle.circuit.specs.File.{blockLength, bytes, checkOf, zeros}
 use Rattle.circuit.specs.declared.Join.the-variants.{Series, Parallel}
 use Rattle.circuit.specs.declared.CurveKind.the-variants.{Single, Pair}
 use Rattle.circuit.specs.declared.Record.{Record}
@@ -127,15 +124,3 @@ operands =
 operands-told : map (λ (l : Line). l .found) operands ≡ map (λ (l : Line). l .paper) operands
 unfolding working operands prepared played plainly fresh
 operands-told = ap₂ _∷_ refl refl
-
--- ---- listings, from bytes to text
-
--- case 1, whole
-case-1-listed : listing (fileOf case1) ≡ text "rows 3 tap 1\n0 input -\n1 resistor -\n2 parallel 12582912\n"
-unfolding working
-case-1-listed = refl
-
--- a byte of row 0 turned over
-damaged-listed : listing (set (fileOf case1) blockLength 5) ≡ text "refused 2 at 1\n"
-unfolding working
-damaged-listed = refl

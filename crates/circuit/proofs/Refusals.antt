@@ -1,5 +1,6 @@
--- Every number from 1 to 15, with its place, at an input that gets it, and beside a limit an input that just passes. One table, worked out.
-use Prim.Native.Nat.{ℕ, _+_, _-_}
+-- Every number from 4 to 15, with its place, at an input that gets it, and beside a limit an input that just passes, worked out. Numbers 1 to 3
+-- are in crates/laws/proofs/Files.antt.
+use Prim.Native.Nat.{ℕ, _-_}
 use mathlib.Core.Path.{_≡_, refl, ap₂}
 use mathlib.Core.Bool.{Bool, true, false}
 use mathlib.Core.List.{List, [], _∷_, _++_, map}
@@ -11,7 +12,7 @@ use Rattle.circuit.specs.Counting.{table}
 use Rattle.circuit.specs.Record.{columnLimit}
 use Rattle.circuit.specs.SetUp.{setUpReport}
 use Rattle.circuit.specs.Run.{call, freshWaves, ran}
-use Rattle.circuit.specs.File.{fileLength, blockLength, block, readReport, writeReport, clearRow, unusedBytesRule, zeros}
+use Rattle.circuit.specs.File.{clearRow, unusedBytesRule, zeros}
 use Rattle.circuit.specs.declared.Join.the-variants.{Series, Parallel}
 use Rattle.circuit.specs.declared.Part.{Part}
 use Rattle.circuit.specs.declared.Part.the-variants.{Blank}
@@ -78,28 +79,12 @@ straight : Part → ℕ → Record
 straight p q = circuit (input (ohms 750) ∷ p ∷ joins Parallel 0 1 ∷ []) 0 Pair (column (pos 0) (pos 0) ∷ column (pos 67108864) (pos 67108864) ∷ []) (ohms q)
 
 -- what a call hands back, and what the paper says
-record Line : Type 0 where
-  found : Report
-  paper : Report
+pub record Line : Type 0 where
+  pub found : Report
+  pub paper : Report
 
-abbrev gives : Report → Report → Line
+abbrev pub gives : Report → Report → Line
 gives f p = record { found = f; paper = p }
-
--- numbers 1 to 3 of a file, and 1 of a buffer to write
-files : List Line
-files =
-    gives (readReport []) (report 1 0)
-    ∷ gives (readReport (zeros (fileLength + 1))) (report 1 0)
-    ∷ gives (writeReport (record { circuit = case1; buffer = zeros (fileLength - 1) })) (report 1 0)
-    ∷ gives (writeReport (record { circuit = case1; buffer = zeros fileLength })) done
-    ∷ gives (readReport (block 0 [] ++ zeros blockLength ++ zeros blockLength)) (report 2 1)
-    ∷ gives (readReport (block 0 [] ++ block 1 [] ++ block 2 [])) (report 3 0)
-    ∷ []
-
--- with its first line apart, a table is worked out once, and not once for each side
-files-refused : map (λ (l : Line). l .found) files ≡ map (λ (l : Line). l .paper) files
-unfolding working files
-files-refused = ap₂ _∷_ refl refl
 
 -- one byte of the heading that nothing uses set
 spoiled : List ℕ
@@ -194,6 +179,7 @@ records =
     ∷ gives (setUpReport (pair (ohms 1000) (ohms 3000) (inf false))) (report 11 0)
     ∷ []
 
+-- with its first line apart, a table is worked out once, and not once for each side
 records-refused : map (λ (l : Line). l .found) records ≡ map (λ (l : Line). l .paper) records
 unfolding working records case1With atRate counting level parts pair
 records-refused = ap₂ _∷_ refl refl

@@ -1,15 +1,20 @@
--- What `play` and `play_raw` share: what the samples need of a circuit that is laid out and loaded, and what is handed back of them.
-use Prim.Native.Nat.{ℕ}
-use mathlib.Core.Path.{_≡_, ap, subst}
+-- What a run and a raw run share: what the samples need of a circuit that is laid out and loaded, what is handed back of them, and what 4 to
+-- 12 say before them.
+use Prim.Native.Nat.{ℕ, _<_}
+use native.Mathlib.Omega.{arith}
+use mathlib.Core.Path.{_≡_, sym, ap, subst, _∙_}
 use mathlib.Core.List.{List}
 use lib.IntN.{ℤ}
 use lib.ListN.{length}
-use Rattle.circuit.specs.Run.{play, freshWaves, chargedRules, worked, ran, call}
+use Rattle.circuit.specs.Numbers.{handed, judge}
+use Rattle.circuit.specs.Run.{play, freshWaves, Charged, chargedRules, worked, ran, call}
 use Rattle.circuit.specs.Take.{outputBytes}
-use Rattle.circuit.specs.Promises.{Runs}
+use Rattle.circuit.specs.Promises.{Charges, Runs}
+use Rattle.circuit.specs.declared.Ports.{Ports}
 use Rattle.circuit.specs.declared.Progress.{Progress}
 use Rattle.circuit.specs.declared.Record.{Record}
 use Rattle.circuit.specs.declared.State.{State}
+use Rattle.laws.specs.Accepted.{Sized}
 use Rattle.laws.proofs.Judging.{pass-done}
 use Rattle.laws.proofs.Charging.{cleared-pass}
 use Rattle.laws.proofs.Running.{allowed-done, ran-worked}
@@ -19,7 +24,7 @@ use Rattle.engine.specs.Plan.{Plan}
 use Rattle.engine.specs.Sample.{Fixed, Loaded, LaidOut}
 use Rattle.engine.specs.Play.{Ends, Playable}
 use Rattle.engine.specs.Raw.{rawCall, fitting, rawCharged, rawWorked, ranRaw, RunsRaw}
-use Rattle.engine.proofs.Loading.{cleared, fresh-modest}
+use Rattle.engine.proofs.Loading.{playable, cleared, fresh-modest}
 use Rattle.engine.proofs.RawRuns.{ran-raw-worked}
 
 -- before the first sample
@@ -48,7 +53,22 @@ module _ {r : Record} {ratios : List ℕ} {ws : List ℤ} (h : Playable r ratios
       ran-raw-worked k (ap (λ n. n .number) (pass-done chargedRules (rawCharged k) passes)) in
       record { number = rw e (w .number); samples = rw e (w .samples); waves = rw e waves; room = rw (e, ← length-outputBytes) (w .written) }
 
--- a sheet stands for the record that was laid out on it, so that a run of the one is a run of the other
+-- 4 to 12, as they are tried on lists
+module _ {k : Charged} {p : Ports} (h : Charges k p) {n : ℕ} (number : n ≡ handed (p .answer) .number) where
+  pub refusing : (n ≡ 0 → ⊥) → 0 < judge chargedRules k .number
+  refusing some = rw (← h .number) (omega arith)
+
+  pub clearing : n ≡ 0 → judge chargedRules k .number ≡ 0
+  clearing none = rw (← h .number) (sym number ∙ none)
+
+  pub playing : Sized (k .circuit) → n ≡ 0 → Playable (k .circuit) (p .ratios) (k .waves)
+  playing sized none = playable k (p .ratios) sized (h .ratios) (clearing none)
+
+-- a sheet stands for the record that was laid out on it, so that what is said of the one is said of the other
+pub charges-of : {r s : Record} {ws : List ℤ} {p : Ports} → r ≡ s
+    → Charges (record { circuit = r; waves = ws }) p → Charges (record { circuit = s; waves = ws }) p
+charges-of {ws = ws} {p = p} = subst (λ (r : Record). Charges (record { circuit = r; waves = ws }) p)
+
 pub runs-of : {r s : Record} {ws xs before : List ℤ} {p : Progress} {out : List ℤ} → r ≡ s
     → Runs (call r ws xs before) p out → Runs (call s ws xs before) p out
 runs-of {ws = ws} {xs = xs} {before = before} {p = p} {out = out} = subst (λ (r : Record). Runs (call r ws xs before) p out)

@@ -1,6 +1,6 @@
 -- The end of a sample: a leaf's wave over its limit is the definition's 15, and else what the tap reads is the output and what the leaves keep is
 -- stored, loaded for the next sample.
-use Prim.Native.Nat.{ℕ, _-_, _<_, _≤_}
+use Prim.Native.Nat.{ℕ, _<_, _≤_}
 use native.Mathlib.Omega.{arith}
 use mathlib.Core.Path.{_≡_, refl, sym, ap, ap₂, _∙_, subst}
 use mathlib.Core.Bool.{Bool, true, false, true≢false, not, _||_}
@@ -21,7 +21,8 @@ use Rattle.circuit.specs.declared.Record.{Record}
 use Rattle.laws.specs.Accepted.{Accepted}
 use Rattle.laws.proofs.Counting as Counting
 use Rattle.laws.proofs.Playing.{stored-sound}
-use Rattle.engine.specs.Plan.{floor, roleOf, slotOf, reactives, Slotted, turnOf, Plan}
+use Rattle.parts.specs.Parts.{roleOf, turnOf}
+use Rattle.engine.specs.Plan.{floor, slotOf, reactives, Slotted, Plan}
 use Rattle.engine.specs.Sample.{overAt, leafOver, Turn, turnedBy, Restored, Restores, Port, Settles, Settled, Loaded, Works}
 use Rattle.engine.specs.declared.sample.Outcome.{Outcome}
 use Rattle.engine.specs.declared.sample.Outcome.the-variants.{Loud, Over, Finished}

@@ -11,7 +11,8 @@ use lib.Seq.{getD-set-same, getD-set-other}
 use Rattle.circuit.specs.Counting.{total, one}
 use Rattle.circuit.specs.Record.{rowLimit, rowIn}
 use Rattle.circuit.specs.declared.Row.{Row}
-use Rattle.engine.specs.Plan.{floor, roleOf, rank, base, slotIn}
+use Rattle.parts.specs.Parts.{roleOf}
+use Rattle.engine.specs.Plan.{floor, rank, base, slotIn}
 use Rattle.engine.proofs.Fill.{filled-more}
 use Rattle.engine.proofs.Ranks.{rank-step, rank-below}
 use Rattle.engine.proofs.Roles.{role}

@@ -18,4 +18,3 @@ pub mod Roles
 pub mod Sampling
 pub mod Slots
 pub mod Turn
-pub mod Wide

@@ -5,7 +5,6 @@ use mathlib.Core.Path.{_≡_, ap₂, _∙_}
 use mathlib.Core.Bool.{true}
 use borrow.Author.Tests.{leb-true, le-leb}
 use lib.IntN.{ℤ, pos, natAbs, negℤ, _+ℤ_, _-ℤ_, +ℤ-idl}
-use lib.Signed.{mag}
 use mir.Syntax.{w32, w64}
 use mir.Val.{SFits, toZ, ofZ}
 use mir.Facts.{toZ-ofZ}
@@ -23,10 +22,6 @@ abs-within m z h = le-leb (natAbs z) m (h .bound)
 
 pub abs-fits : {z : ℤ} {e : ℕ} → Abs z e → e < 2 ^ 63 → SFits w64 z
 abs-fits {z} h l = fits-abs z (omega (arith, h .bound))
-
--- what a call hands back, as it is read
-pub returned : (z : ℤ) → mag z < 2 ^ 63 → toZ w64 (ofZ w64 z) ≡ z
-returned z h = toZ-ofZ (record { sfits = h })
 
 -- ---- one wave
 

@@ -26,7 +26,8 @@ use Rattle.circuit.specs.declared.Record.{Record}
 use Rattle.laws.specs.Accepted.{Sized}
 use Rattle.laws.proofs.Counting as Counting
 use Rattle.laws.proofs.Charging.{Cleared, zero-cleared}
-use Rattle.engine.specs.Plan.{partTaken, Seated}
+use Rattle.parts.specs.Parts.{partTaken}
+use Rattle.engine.specs.Plan.{Seated}
 use Rattle.engine.specs.Sweep.{Modest}
 use Rattle.engine.specs.Sample.{Loaded}
 use Rattle.engine.specs.Play.{Playable}

@@ -12,7 +12,8 @@ use Rattle.circuit.specs.Counting.{total, one}
 use Rattle.circuit.specs.Record.{rowIn}
 use Rattle.circuit.specs.declared.Row.{Row}
 use Rattle.laws.proofs.Counting as Counting
-use Rattle.engine.specs.Plan.{roleOf, rank}
+use Rattle.parts.specs.Parts.{roleOf}
+use Rattle.engine.specs.Plan.{rank}
 
 one-most : (b : Bool) → one b ≤ 1
 one-most true = omega arith

@@ -12,7 +12,7 @@ use Rattle.circuit.specs.declared.Adaptor.{Adaptor as Joint}
 use Rattle.circuit.specs.declared.Part.{Part}
 use Rattle.circuit.specs.declared.Part.the-variants.{Blank, Leaf, Adaptor}
 use Rattle.laws.specs.Accepted.{Child}
-use Rattle.engine.specs.Plan.{roleOf}
+use Rattle.parts.specs.Parts.{roleOf}
 
 pub record Role (p : Part) : Type 0 where
   pub few : roleOf p < 5

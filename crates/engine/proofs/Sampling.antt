@@ -26,7 +26,8 @@ use Rattle.circuit.specs.declared.Part.the-variants.{Blank, Leaf, Adaptor}
 use Rattle.circuit.specs.declared.Record.{Record}
 use Rattle.laws.proofs.Drawn.{answer-never-exceeds}
 use Rattle.laws.proofs.Trees as Trees
-use Rattle.engine.specs.Plan.{floor, roleOf, slotOf, topSlot, Plan}
+use Rattle.parts.specs.Parts.{roleOf}
+use Rattle.engine.specs.Plan.{floor, slotOf, topSlot, Plan}
 use Rattle.engine.specs.Sweep.{rises, Risen, Swept, Climbs, Modest, Drops, Reached}
 use Rattle.engine.specs.Sample.{Fixed, Loaded, LaidOut}
 use Rattle.engine.proofs.Limits.{within-abs}

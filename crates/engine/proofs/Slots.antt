@@ -16,7 +16,8 @@ use Rattle.circuit.specs.declared.Record.{Record}
 use Rattle.laws.specs.Accepted.{Child, Accepted}
 use Rattle.laws.proofs.Counting as Counting
 use Rattle.laws.proofs.Formed.{child-lower}
-use Rattle.engine.specs.Plan.{floor, roleOf, rank, base, slotIn, slotOf, topSlot, Slotted}
+use Rattle.parts.specs.Parts.{roleOf}
+use Rattle.engine.specs.Plan.{floor, rank, base, slotIn, slotOf, topSlot, Slotted}
 use Rattle.engine.proofs.Ranks.{rank-rises, rank-at}
 use Rattle.engine.proofs.Roles.{role, role-few, parent-role}
 

@@ -26,7 +26,8 @@ use Rattle.laws.specs.Accepted.{adaptorLimit, adaptors, Child, Lower, Apart}
 use Rattle.laws.proofs.Formed.{child-lower}
 use Rattle.laws.proofs.Trees.{tree-adaptor, up-adaptor}
 use Rattle.engine.specs.Wave.{upLimit, Below}
-use Rattle.engine.specs.Plan.{floor, roleOf, slotOf, topSlot, joinOf, Joints, Slotted}
+use Rattle.parts.specs.Parts.{roleOf}
+use Rattle.engine.specs.Plan.{floor, slotOf, topSlot, joinOf, Joints, Slotted}
 use Rattle.engine.specs.Sweep.{rises, Risen, Swept}
 use Rattle.engine.proofs.Range.{tree-range}
 

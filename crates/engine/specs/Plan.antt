@@ -4,22 +4,19 @@ use mathlib.Core.Path.{_≡_}
 use mathlib.Core.Bool.{cond}
 use mathlib.Core.List.{List}
 use lib.Dec.{eqb}
-use lib.IntN.{ℤ, pos, negsuc}
+use lib.IntN.{ℤ, pos}
 use lib.ListN.{length, getD}
 use Rattle.circuit.specs.Counting.{total, one}
 use Rattle.circuit.specs.Record.{top, rowIn, partAt, adaptorsOf}
 use Rattle.circuit.specs.SetUp.{ratioAt}
-use Rattle.circuit.specs.Run.{isReactive}
-use Rattle.circuit.specs.declared.Element.{Element}
-use Rattle.circuit.specs.declared.Element.the-variants.{Resistor, Capacitor, Inductor, Input, Steady}
 use Rattle.circuit.specs.declared.Join.{Join}
 use Rattle.circuit.specs.declared.Join.the-variants.{Series, Parallel}
 use Rattle.circuit.specs.declared.Adaptor.{Adaptor as Joint}
-use Rattle.circuit.specs.declared.Part.{Part}
-use Rattle.circuit.specs.declared.Part.the-variants.{Blank, Leaf, Adaptor}
+use Rattle.circuit.specs.declared.Part.the-variants.{Adaptor}
 use Rattle.circuit.specs.declared.Row.{Row}
 use Rattle.circuit.specs.declared.Record.{Record}
 use Rattle.laws.specs.Accepted.{adaptorLimit, Child, Accepted}
+use Rattle.parts.specs.Parts.{roleOf}
 use Rattle.engine.specs.declared.plan.Shape.{Shape}
 
 -- ---- slots
@@ -27,16 +24,6 @@ use Rattle.engine.specs.declared.plan.Shape.{Shape}
 -- the input's slot: the slots of the other leaves are below it, those of the adaptors above it
 abbrev pub floor : ℕ
 floor = adaptorLimit
-
--- what a row is to a run: 0 a reactive leaf, 1 another leaf, 2 the input, 3 an adaptor, 4 a blank row
-unfoldable pub roleOf : Part → ℕ
-roleOf Blank = 4
-roleOf (Leaf (Resistor r)) = 1
-roleOf (Leaf (Capacitor c)) = 0
-roleOf (Leaf (Inductor l)) = 0
-roleOf (Leaf (Input r)) = 2
-roleOf (Leaf (Steady r v)) = 1
-roleOf (Adaptor a) = 3
 
 -- so many of the rows have these roles
 abbrev pub Roled : List Row → ℕ → List ℕ → Type 0
@@ -115,28 +102,9 @@ pub record Stage (r : Record) (js : Joints) (k : ℕ) : Type 0 where
 abbrev pub Staged : Record → Joints → Type 0
 Staged r js = (k : ℕ) → k < adaptorsOf r → Stage r js k
 
--- ---- leaves
+-- ---- the tap
 
--- an inductor stores the opposite of the wave that reaches it
-abbrev pub turnOf : Part → ℤ
-turnOf Blank = pos 0
-turnOf (Leaf (Resistor r)) = pos 0
-turnOf (Leaf (Capacitor c)) = pos 0
-turnOf (Leaf (Inductor l)) = negsuc 0
-turnOf (Leaf (Input r)) = pos 0
-turnOf (Leaf (Steady r v)) = pos 0
-turnOf (Adaptor a) = pos 0
-
--- a reactive leaf's stored wave; any other has none
-abbrev pub takenOut : Element → ℤ → ℤ
-takenOut e w = cond (isReactive e) w (pos 0)
-
-abbrev pub partTaken : Part → ℤ → ℤ
-partTaken Blank w = pos 0
-partTaken (Leaf e) w = takenOut e w
-partTaken (Adaptor a) w = pos 0
-
--- the tap's row; at the top the two waves are the top's and the diode's
+-- its row; at the top the two waves are the top's and the diode's
 abbrev pub tapRow : Record → ℕ
 tapRow r = cond (eqb (r .tap) top) (r .count - 1) (r .tap)
 

@@ -16,11 +16,12 @@ use Rattle.circuit.specs.Sample.{rounded, sent, sampled, refused, finished, sto
 use Rattle.circuit.specs.Run.{soundWave}
 use Rattle.circuit.specs.declared.Record.{Record}
 use Rattle.laws.specs.Accepted.{Sized, Accepted}
+use Rattle.parts.specs.Parts.{turnOf, mirrorOf}
 use Rattle.engine.specs.declared.plan.Shape.{Shape}
 use Rattle.engine.specs.declared.sample.Outcome.{Outcome}
 use Rattle.engine.specs.declared.sample.Outcome.the-variants.{Loud, Over, Finished}
-use Rattle.engine.specs.Curve.{Drawing, Mirrors}
-use Rattle.engine.specs.Plan.{floor, slotOf, reactives, Slotted, Staged, turnOf, tapRow, Plan}
+use Rattle.engine.specs.Curve.{Drawing}
+use Rattle.engine.specs.Plan.{floor, slotOf, reactives, Slotted, Staged, tapRow, Plan}
 use Rattle.engine.specs.Sweep.{Modest}
 
 -- ---- the leaves' limits
@@ -90,7 +91,7 @@ pub record Fixed (p : Plan) (r : Record) : Type 0 where
   pub adaptors : p .shape .adaptors ≡ adaptorsOf r
   pub reactive : p .shape .reactive ≡ reactives r
   pub tap : p .shape .tap ≡ slotOf r (tapRow r)
-  pub mirror : Mirrors (r .kind) (p .shape .mirror)
+  pub mirror : p .shape .mirror ≡ mirrorOf (r .kind)
   pub staged : Staged r (p .joints)
   pub turn : (j : ℕ) → j < r .count → storedAt (p .turns) (slotOf r j) ≡ turnOf (partAt r j)
   pub drawn : Drawing r (p .lines)

@@ -3,8 +3,6 @@
 // wave. All numbers are whole microvolts; a column's and a wave's keep 2^26, so no product reaches 2^55.
 use circuit::COLUMNS;
 use circuit::Column;
-use circuit::CurveKind;
-use circuit::WAVE_LIMIT;
 use circuit::Wave;
 use sheet::Coordinates;
 ghost use mathlib.Core.Path.{_≡_};
@@ -19,7 +17,8 @@ ghost use Rattle.circuit.specs.Curve.{waveLimit, passed, towardZero, reflected}
 ghost use Rattle.circuit.specs.declared.Record.{Record};
 ghost use Rattle.laws.specs.Accepted.{Drawn};
 ghost use Rattle.sheet.specs.Sheet.{columnsIn};
-ghost use Rattle.engine.specs.Curve.{lineBy, Sloped, lineLimit, columnIn, Drawing, Mirrors};
+ghost use Rattle.parts.specs.Parts.{mirrorOf};
+ghost use Rattle.engine.specs.Curve.{lineBy, Sloped, lineLimit, columnIn, Drawing};
 
 // One line more than there are columns, and one more to make them a power of two.
 pub(crate) const LINES: usize = COLUMNS + 2;
@@ -79,17 +78,6 @@ pub(crate) fn lay_lines(width: usize, xs: &Coordinates, ys: &Coordinates, lines:
     }
 }
 
-// Waves below this one are answered by the opposite of the answer to their opposite: of a pair all that are negative, of a single none.
-pub(crate) fn mirror(kind: CurveKind) -> i64
-    ensures { λ m. ⌜ Mirrors kind m ⌝ }
-{
-    match kind {
-        CurveKind::Unset => 0,
-        CurveKind::Single => -(WAVE_LIMIT as i64),
-        CurveKind::Pair => 0,
-    }
-}
-
 // The number of the line that holds at a wave, by a walk from the left: how many columns have an x that is not above it.
 fn segment(lines: &[Line; LINES], wave: i64) -> usize
     requires { ⌜ ((r : Record) × Drawing r (now lines)) × Abs wave waveLimit ⌝ }
@@ -114,8 +102,8 @@ fn drawn(lines: &[Line; LINES], wave: i64) -> i64
 
 // The wave that the diode sends back, with one division.
 pub(crate) fn reflect(mirror: i64, lines: &[Line; LINES], wave: Wave) -> Wave
-    requires { ⌜ ((r : Record) × Drawing r (now lines) × Mirrors (r .kind) mirror) × Abs (wave .0) waveLimit ⌝ }
-    ensures { λ a. ⌜ ((r : Record) → Drawing r (now (lines .entry)) → Mirrors (r .kind) mirror → a .0 ≡ reflected r (wave .0)) ⌝ }
+    requires { ⌜ ((r : Record) × Drawing r (now lines) × (mirror ≡ mirrorOf (r .kind))) × Abs (wave .0) waveLimit ⌝ }
+    ensures { λ a. ⌜ ((r : Record) → Drawing r (now (lines .entry)) → mirror ≡ mirrorOf (r .kind) → a .0 ≡ reflected r (wave .0)) ⌝ }
 {
     let a = wave.0;
     if a < mirror {

@@ -4,12 +4,13 @@
 use crate::curve::LINES;
 use crate::curve::Line;
 use crate::curve::lay_lines;
-use crate::curve::mirror;
-use circuit::Element;
 use circuit::Join;
 use circuit::Part;
 use circuit::ROWS;
-use circuit::TOP;
+use parts::mirror;
+use parts::role_of;
+use parts::tap_row;
+use parts::turn;
 use sheet::Cells;
 use sheet::Coordinates;
 use sheet::Heading;
@@ -17,20 +18,18 @@ use sheet::Microvolts;
 use sheet::Values;
 use sheet::part_in;
 ghost use mathlib.Core.Path.{_≡_};
-ghost use mathlib.Core.Bool.{cond};
 ghost use mathlib.Core.List.{List};
 ghost use Prim.Native.Nat.{ℕ, _-_, _≤_, _<_};
-ghost use lib.Dec.{eqb};
 ghost use lib.ListN.{length, getD};
-ghost use Rattle.circuit.specs.Record.{rowLimit, top, partAt, adaptorsOf};
+ghost use Rattle.circuit.specs.Record.{rowLimit, partAt, adaptorsOf};
 ghost use Rattle.circuit.specs.Sample.{storedAt};
-ghost use Rattle.circuit.specs.declared.Part.the-variants.{Leaf};
 ghost use Rattle.circuit.specs.declared.Row.{Row};
 ghost use Rattle.circuit.specs.declared.Record.{Record};
 ghost use Rattle.sheet.specs.Sheet.{headingOf, rowsIn, columnsIn, recordIn};
-ghost use Rattle.engine.specs.Curve.{lineLimit, Mirrors};
-ghost use Rattle.engine.specs.Plan.{roleOf, Roled, rank, slotIn, slotOf};
-ghost use Rattle.engine.specs.Plan.{joinOf, jointsOf, Staged, turnOf, tapRow, planOf, Layable, Seated, Roomy};
+ghost use Rattle.parts.specs.Parts.{turnOf, mirrorOf};
+ghost use Rattle.engine.specs.Curve.{lineLimit};
+ghost use Rattle.engine.specs.Plan.{Roled, rank, slotIn, slotOf};
+ghost use Rattle.engine.specs.Plan.{joinOf, jointsOf, Staged, tapRow, planOf, Layable, Seated, Roomy};
 ghost use Rattle.engine.specs.Sample.{Ready, Fixed};
 
 // Room for the adaptors of a circuit, and for its leaves but the input.
@@ -76,28 +75,6 @@ fn code_of(join: Join) -> u8
     match join {
         Join::Series => 1,
         Join::Parallel => 0,
-    }
-}
-
-fn leaf_role(e: Element) -> u8
-    ensures { λ c. ⌜ c ≡ roleOf (Leaf e) ⌝ }
-{
-    match e {
-        Element::Resistor(_) => 1,
-        Element::Capacitor(_) => 0,
-        Element::Inductor(_) => 0,
-        Element::Input(_) => 2,
-        Element::Steady(_, _) => 1,
-    }
-}
-
-fn role_of(p: Part) -> u8
-    ensures { λ c. ⌜ c ≡ roleOf p ⌝ }
-{
-    match p {
-        Part::Blank => 4,
-        Part::Leaf(e) => leaf_role(e),
-        Part::Adaptor(_) => 3,
     }
 }
 
@@ -187,29 +164,6 @@ fn lay_joints(
     }
 }
 
-fn leaf_turn(e: Element) -> i64
-    ensures { λ t. ⌜ t ≡ turnOf (Leaf e) ⌝ }
-{
-    match e {
-        Element::Resistor(_) => 0,
-        Element::Capacitor(_) => 0,
-        Element::Inductor(_) => -1,
-        Element::Input(_) => 0,
-        Element::Steady(_, _) => 0,
-    }
-}
-
-// -1 of an inductor, which stores the opposite of the wave that reaches it; 0 of any other part.
-fn turn(p: Part) -> i64
-    ensures { λ t. ⌜ t ≡ turnOf p ⌝ }
-{
-    match p {
-        Part::Blank => 0,
-        Part::Leaf(e) => leaf_turn(e),
-        Part::Adaptor(_) => 0,
-    }
-}
-
 // The parts' turns, each in its slot.
 fn turns_of(
     count: usize,
@@ -231,17 +185,10 @@ fn turns_of(
     turns
 }
 
-// The row that a tap reads: at the top the two waves are the top's and the diode's.
-fn tap_row(tap: u8, last: usize) -> usize
-    ensures { λ r. ⌜ r ≡ cond (eqb tap top) last tap ⌝ }
-{
-    if tap == TOP { last } else { wide(tap) }
-}
-
 fn shape_of(h: Heading, q: usize, slots: &[u8; ROWS]) -> Shape
     requires { ⌜ ((r : Record) × (prepared : List ℕ) × (h ≡ headingOf r) × Layable r prepared (now slots)) ⌝ }
     ensures { λ s. ⌜ ((r : Record) (prepared : List ℕ) → h ≡ headingOf r → Layable r prepared (now (slots .entry))
-        → (s .adaptors ≡ adaptorsOf r) × (s .reactive ≡ q) × (s .tap ≡ slotOf r (tapRow r)) × Mirrors (r .kind) (s .mirror)) ⌝ }
+        → (s .adaptors ≡ adaptorsOf r) × (s .reactive ≡ q) × (s .tap ≡ slotOf r (tapRow r)) × (s .mirror ≡ mirrorOf (r .kind))) ⌝ }
 {
     let count = wide(h.count);
     let kind = h.kind;

@@ -1,8 +1,6 @@
 // The samples of a run, in order: the plan is laid out once, and each sample starts from the waves that the one before it stored.
 use crate::curve::LINES;
 use crate::curve::Line;
-use crate::leaf::part_sends;
-use crate::leaf::part_taken;
 use crate::plan::JOINTS;
 use crate::plan::Shape;
 use crate::plan::lay_out;
@@ -15,6 +13,8 @@ use circuit::Progress;
 use circuit::ROWS;
 use circuit::State;
 use circuit::Wave;
+use parts::part_sends;
+use parts::part_taken;
 use sheet::Cells;
 use sheet::Coordinates;
 use sheet::Heading;

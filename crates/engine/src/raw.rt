@@ -1,8 +1,8 @@
 // The samples of a raw run: each is read out of the bytes as its turn comes, and its output's bytes are put in their place.
-use crate::bytes::put;
-use crate::bytes::sample_at;
 use crate::curve::LINES;
 use crate::curve::Line;
+use crate::packed::put;
+use crate::packed::sample_at;
 use crate::plan::JOINTS;
 use crate::plan::Shape;
 use crate::plan::lay_out;

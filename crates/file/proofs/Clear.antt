@@ -10,7 +10,7 @@ use lib.ListN.{length, getD, take, drop, length-replicate, getD-replicate}
 use lib.Seq.{getD-take, getD-drop, length-take-le, ext-getD}
 use Rattle.circuit.specs.File.{numberOf, numberAt, zeros, clear}
 use Rattle.laws.proofs.Counting.{every-true, true-every}
-use Rattle.file.proofs.Digits.{part-room}
+use Rattle.blocks.proofs.Digits.{part-room}
 
 module _ (n at : ℕ) (s : List ℕ) where
   byte-at : (j : ℕ) → j < n → getD (take n (drop at s)) j 0 ≡ getD s (at + j) 0

@@ -9,9 +9,10 @@ use mir.Syntax.{w32}
 use mir.Val.{toZ}
 use Rattle.circuit.specs.File.{columnLength, bytes, numberOf, numberAt, signedAt, signedBytes, columnFields, columnFrom}
 use Rattle.circuit.specs.declared.Column.{Column}
-use Rattle.file.specs.Held.{Bytes, HeldColumn}
-use Rattle.file.proofs.Digits.{part-below, part-back}
-use Rattle.file.proofs.Pieces.{part-more, part-inner}
+use Rattle.blocks.specs.Placing.{Bytes}
+use Rattle.file.specs.Held.{HeldColumn}
+use Rattle.blocks.proofs.Digits.{part-below, part-back}
+use Rattle.blocks.proofs.Pieces.{part-more, part-inner}
 use Rattle.file.proofs.RowTrips.{signed-read, signed-written}
 
 pub column-back : (s : List ℕ) → Bytes s → (at : ℕ) → at + columnLength ≤ length s → columnFields (columnFrom at s) ≡ take columnLength (drop at s)

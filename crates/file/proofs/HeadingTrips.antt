@@ -12,11 +12,11 @@ use Rattle.circuit.specs.File.{bytes, numberOf, numberAt, floatAt, kindNumber, 
 use Rattle.circuit.specs.declared.CurveKind.{CurveKind}
 use Rattle.circuit.specs.declared.CurveKind.the-variants.{Unset, Single, Pair}
 use Rattle.circuit.specs.declared.Record.{Record}
-use Rattle.file.specs.Held.{Bytes, Held}
-use Rattle.file.specs.Placing.{headingLength}
-use Rattle.file.proofs.Digits.{number-bytes, part-below, part-back}
+use Rattle.file.specs.Held.{Held}
+use Rattle.blocks.specs.Placing.{Bytes, headingLength}
+use Rattle.blocks.proofs.Digits.{number-bytes, part-below, part-back}
 use Rattle.file.proofs.Clear.{clear-zeros, zeros-clear}
-use Rattle.file.proofs.Pieces.{part-more, part-inner}
+use Rattle.blocks.proofs.Pieces.{part-more, part-inner}
 use Rattle.file.proofs.RowTrips.{value-read, value-written}
 
 -- ---- a curve's kind

@@ -1,12 +1,4 @@
-pub mod Digits
-pub mod Patterns
-pub mod Placed
-pub mod Blocks
-pub mod Sealed
-pub mod Pieces
-pub mod Sizes
-pub mod Fields
-pub mod Judged
+pub mod Reported
 pub mod Clear
 pub mod RowTrips
 pub mod ColumnTrips

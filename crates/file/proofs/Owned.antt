@@ -1,5 +1,4 @@
--- What owning a value tells, in the words of `Held`: a record that code holds is held, and so are a slice's bytes. The facts are the type's own,
--- field by field; a caller has them as `start .good` and `c .slice-known .given`.
+-- What owning a record tells, in the words of `Held`. The facts are the type's own, field by field; a caller has them as `start .good`.
 use mathlib.Core.Path.{_≡_, sym, subst}
 use Prim.Native.Nat.{ℕ, zero, suc}
 use mathlib.Core.Bool.{true}
@@ -8,8 +7,7 @@ use lib.Dec.{T, lit<}
 use lib.ListN.{getD}
 use lib.IntN.{pos}
 use lib.Ieee.{Float, binary64, fits}
-use mir.Syntax.{w8}
-use mir.Val.{Val, Fits}
+use mir.Val.{Val}
 use base.Fml.{Fml}
 use denote.Array.{each}
 use denote.Shadow.{shadow}
@@ -27,12 +25,7 @@ use Rattle.circuit.specs.declared.Row.{Row}
 use Rattle.circuit.specs.declared.Column.{Column}
 use Rattle.circuit.specs.declared.Record.{Record}
 use Rattle.laws.proofs.Sizes.{sized}
-use Rattle.file.specs.Held.{Bytes, HeldElement, HeldPart, HeldColumn, Held}
-
--- ---- bytes
-
-pub bytes-held : (l : List ℕ) → ((i : ℕ) → Fits w8 (getD l i 0)) → Bytes l
-bytes-held l h i = h i .fits
+use Rattle.file.specs.Held.{HeldElement, HeldPart, HeldColumn, Held}
 
 -- ---- rows
 

@@ -26,15 +26,16 @@ use Rattle.laws.specs.Accepted.{Sized}
 use Rattle.laws.proofs.Counting.{every-true, true-every, unless-passes, lowest-passes, length-table, getD-table, is-table}
 use Rattle.laws.proofs.Judging.{Passed, done-passed}
 use Rattle.laws.proofs.Formed.{formed, rows-blank}
-use Rattle.file.specs.Held.{Bytes, Held}
-use Rattle.file.specs.Placing.{headingLength}
-use Rattle.file.proofs.Digits.{bytes-drop, bytes-take, part-room}
-use Rattle.file.proofs.Sizes.{heading-size, row-size, column-size, rows-size, columns-size, blocks-roomy}
-use Rattle.file.proofs.Blocks.{behind, block-form, block-clear, block-right, block-back}
-use Rattle.file.proofs.Sealed.{Roomy, roomy-at, sealed-length, sealed-at, sealed-back}
-use Rattle.file.proofs.Pieces.{part-inner, pieces-at, pieces-back}
+use Rattle.file.specs.Held.{Held}
+use Rattle.blocks.specs.Placing.{Bytes, headingLength}
+use Rattle.blocks.proofs.Digits.{bytes-drop, bytes-take, part-room}
+use Rattle.blocks.proofs.Sizes.{heading-size, row-size, column-size, rows-size, columns-size, blocks-roomy}
+use Rattle.blocks.proofs.Blocks.{behind, block-form, block-clear, block-right, block-back}
+use Rattle.blocks.proofs.Sealed.{Roomy, roomy-at, sealed-length, sealed-at, sealed-back}
+use Rattle.blocks.proofs.Pieces.{part-inner, pieces-at, pieces-back}
 use Rattle.file.proofs.Clear.{clear-zeros, zeros-clear}
-use Rattle.file.proofs.Judged.{Sound, judged-sound, sound-judged, read-judged, read-on, record-read, write-on, written-length, buffer-written}
+use Rattle.blocks.proofs.Judged.{Sound, judged-sound, sound-judged}
+use Rattle.file.proofs.Reported.{read-judged, read-on, record-read, write-on, written-length, buffer-written}
 use Rattle.file.proofs.RowTrips.{row-back, row-passes, row-read}
 use Rattle.file.proofs.ColumnTrips.{column-back, column-read}
 use Rattle.file.proofs.HeadingTrips as Heading

@@ -25,11 +25,12 @@ use Rattle.circuit.specs.declared.Join.the-variants.{Series, Parallel}
 use Rattle.circuit.specs.declared.Part.{Part}
 use Rattle.circuit.specs.declared.Part.the-variants.{Blank, Leaf, Adaptor}
 use Rattle.circuit.specs.declared.Row.{Row}
-use Rattle.file.specs.Held.{Bytes, HeldPart}
-use Rattle.file.proofs.Digits.{number-bytes, length-bytes, part-below, part-back}
+use Rattle.blocks.specs.Placing.{Bytes}
+use Rattle.file.specs.Held.{HeldPart}
+use Rattle.blocks.proofs.Digits.{number-bytes, length-bytes, part-below, part-back}
 use Rattle.file.proofs.Clear.{clear-zeros, zeros-clear, clear-number}
-use Rattle.file.proofs.Fields.{part-same}
-use Rattle.file.proofs.Pieces.{part-more, part-inner}
+use Rattle.blocks.proofs.Fields.{part-same}
+use Rattle.blocks.proofs.Pieces.{part-more, part-inner}
 
 -- ---- values
 

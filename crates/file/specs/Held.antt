@@ -1,9 +1,7 @@
 -- What every value of the code has by its type, said of the definitions' plain numbers and lists, so that laws over the definitions can ask
--- for it: a byte is below 256, an array has its length, an i32 and an f64 are in their range.
+-- for it: an array has its length, an i32 and an f64 are in their range.
 use Prim.Native.Nat.{ℕ, _^_, _<_}
-use mathlib.Core.List.{List}
 use lib.Dec.{T}
-use lib.ListN.{getD}
 use lib.Ieee.{binary64, fits}
 use mir.Syntax.{w32}
 use mir.Val.{SFits}
@@ -15,10 +13,6 @@ use Rattle.circuit.specs.declared.Part.the-variants.{Blank, Leaf, Adaptor}
 use Rattle.circuit.specs.declared.Column.{Column}
 use Rattle.circuit.specs.declared.Record.{Record}
 use Rattle.laws.specs.Accepted.{Sized}
-
--- a slice of bytes
-abbrev pub Bytes : List ℕ → Type 0
-Bytes l = (i : ℕ) → getD l i 0 < 256
 
 abbrev pub HeldElement : Element → Type 0
 HeldElement (Resistor r) = T (fits binary64 r)

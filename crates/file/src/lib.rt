@@ -1,12 +1,4 @@
-// The circuit file: reading it, and writing it. Numbers as bytes are in `field`, a block and its check in `block`, the three blocks'
-// contents in `heading`, `row` and `column`, and what is asked of a file's bytes in `rules`.
-mod block;
-mod column;
-mod field;
-mod heading;
-mod row;
-mod rules;
-
+// The circuit file: reading it, and writing it. Its bytes are taken apart and put together in `blocks`, and its record is judged in `setup`.
 use circuit::Answer;
 use circuit::FILE_LENGTH;
 use circuit::Opened;
@@ -15,21 +7,22 @@ use circuit::ROWS;
 use circuit::Reading;
 use circuit::Record;
 ghost use mathlib.Core.Path.{_≡_};
-ghost use lib.ListN.{length, replicate};
+ghost use lib.ListN.{replicate};
 ghost use Rattle.circuit.specs.Record.{rowLimit};
 ghost use Rattle.circuit.specs.SetUp.{nothing};
-ghost use Rattle.circuit.specs.File.{fileLength, noRecord, fileOf};
+ghost use Rattle.circuit.specs.File.{noRecord};
 ghost use Rattle.circuit.specs.Promises.{Opens, Reads, Writes};
 
 // Reads the file that `s` is, and keeps the rows that set-up prepared of its record. On refusal the record and the rows are zeros.
 pub fn open(s: &[u8]) -> Opened
     ensures { λ o. ⌜ Opens (now (s .entry)) o ⌝ }
 {
-    let judged = rules::judged(s);
+    let taken = blocks::read(s);
+    let judged = taken.answer;
     if judged.number() != 0 {
         return refused(judged);
     }
-    let record = heading::record_of(s);
+    let record = taken.record;
     let set_up = setup::set_up(record);
     let answer = set_up.answer;
     if answer.number() != 0 {
@@ -56,7 +49,7 @@ pub fn read(s: &[u8]) -> Reading
 fn refused(answer: Answer) -> Opened
     ensures { λ o. ⌜ (o .answer ≡ answer) × (o .record ≡ noRecord) × (o .rows ≡ replicate rowLimit nothing) ⌝ }
 {
-    let record = heading::no_record();
+    let record = blocks::no_record();
     let rows = [Prepared::blank(); ROWS];
     Opened {
         answer,
@@ -75,18 +68,7 @@ pub fn write(r: Record, out: &mut [u8]) -> Answer
     let set_up = setup::set_up(r);
     let answer = set_up.answer;
     if answer.number() == 0 {
-        write_blocks(r, out);
+        blocks::write(r, out);
     }
     answer
-}
-
-fn write_blocks(r: Record, out: &mut [u8])
-    requires { ⌜ length (now out) ≡ fileLength ⌝ }
-    ensures { λ _. ⌜ now (out .exit) ≡ fileOf r ⌝ }
-{
-    let rows = r.rows;
-    let columns = r.columns;
-    block::write(out, 0, heading::heading_block(r));
-    block::write(out, 1, row::row_block(rows));
-    block::write(out, 2, column::column_block(columns));
 }

@@ -10,7 +10,7 @@ use Rattle.circuit.specs.File.{readReport, recordOf}
 use Rattle.circuit.specs.Listing.{acceptedLines, refusedLine, listing}
 use Rattle.circuit.specs.Promises.{Lists}
 use Rattle.circuit.specs.declared.Listed.{Listed}
-use Rattle.file.proofs.Judged.{read-judged, read-on}
+use Rattle.file.proofs.Reported.{read-judged, read-on}
 use Rattle.listing.specs.Writing.{Puts}
 use Rattle.listing.proofs.Texts.{puts-as, starts, starts-bytes, ends-within}
 

@@ -1,24 +1,17 @@
-// Set-up: rules 4 to 11 of a record, and its prepared rows. The lowest number that applies is handed back, with its place.
-// The record is laid out once as lists of numbers, and they are lent to every rule.
+// Set-up: rules 4 to 11 of a record, of which `wiring` has 4 to 7, and its prepared rows. The lowest number that applies is handed back, with
+// its place. The record is laid out once as lists of numbers, and they are lent to every rule.
 
 ghost use mathlib.Core.Path.{_≡_};
-ghost use Prim.Native.Nat.{_≤_, _<_};
-ghost use mathlib.Core.List.{List};
 ghost use Rattle.circuit.specs.Numbers.{handed, judge};
-ghost use Rattle.circuit.specs.Record.{rowLimit, recordRules};
+ghost use Rattle.circuit.specs.Record.{recordRules};
 ghost use Rattle.circuit.specs.SetUp.{portRules};
 ghost use Rattle.circuit.specs.Run.{freshWaves};
 ghost use Rattle.circuit.specs.Promises.{SetsUp, Finds};
-ghost use Rattle.circuit.specs.declared.Column.{Column};
 ghost use Rattle.sheet.specs.Sheet.{rowsIn, columnsIn, recordIn};
-ghost use Rattle.setup.specs.Answers.{treeRules};
 ghost use Rattle.setup.specs.Rows.{Rooted, Filled, Zeros};
 
 mod columns;
-mod form;
 mod port;
-mod tree;
-mod value;
 
 use circuit::Answer;
 use circuit::COLUMNS;
@@ -32,39 +25,6 @@ use sheet::Coordinates;
 use sheet::Heading;
 use sheet::Microvolts;
 use sheet::Values;
-
-// 5 to 7.
-fn tree_answer(h: Heading, cells: &Cells, microvolts: &Microvolts, values: &Values) -> Answer
-    requires { ⌜ (0 < h .count) × (h .count ≤ rowLimit) ⌝ }
-    ensures { λ a. ⌜ ((columns : List Column) → handed a ≡ judge treeRules (recordIn h
-        (rowsIn (now (cells .entry)) (now (microvolts .entry)) (now (values .entry))) columns)) ⌝ }
-{
-    let rate = form::rate_rule(h.rate);
-    let lower = tree::children_rule(h.count, cells, microvolts, values);
-    let once = tree::used_once_rule(h.count, cells, microvolts, values);
-    let tapped = tree::input_and_tap_rule(h.count, h.tap, cells, microvolts, values);
-    let valued = value::value_rule(h.count, cells, microvolts, values);
-    rate.or(lower.or(once.or(tapped.or(valued))))
-}
-
-// 4 to 7: where the form is wrong the later rules are not tried.
-fn record_answer(
-    h: Heading,
-    cells: &Cells,
-    microvolts: &Microvolts,
-    values: &Values,
-    xs: &Coordinates,
-    ys: &Coordinates,
-) -> Answer
-    ensures { λ a. ⌜ handed a ≡ judge recordRules (recordIn h (rowsIn (now (cells .entry)) (now (microvolts .entry)) (now (values .entry)))
-        (columnsIn (now (xs .entry)) (now (ys .entry)))) ⌝ }
-{
-    let form = form::form_rule(h, cells, microvolts, values, xs, ys);
-    if form.number() != 0 {
-        return form;
-    }
-    tree_answer(h, cells, microvolts, values)
-}
 
 // 8 to 11.
 fn port_answer(
@@ -139,7 +99,7 @@ pub fn find_ports(
     ensures { λ p. ⌜ Finds (recordIn h (rowsIn (now (cells .entry)) (now (microvolts .entry)) (now (values .entry)))
         (columnsIn (now (xs .entry)) (now (ys .entry)))) p ⌝ }
 {
-    let answer = record_answer(h, cells, microvolts, values, xs, ys);
+    let answer = wiring::answer(h, cells, microvolts, values, xs, ys);
     if answer.number() != 0 {
         return refused(answer);
     }

@@ -63,7 +63,7 @@ sheet-sized h cells microvolts values xs ys = record { rows = length-table _ row
 
 module _ {r : Record} (long : Sized r) {h : Heading} {cells : List (List ℕ)} {microvolts : List ℤ} {values : List Float} {xs ys : List ℤ}
     (spread : Spread r h cells microvolts values xs ys) where
-  pub rows-back : rowsIn cells microvolts values ≡ r .rows
+  rows-back : rowsIn cells microvolts values ≡ r .rows
   unfolding rowsIn
   rows-back =
       let f = spread .rows in
@@ -77,7 +77,7 @@ module _ {r : Record} (long : Sized r) {h : Heading} {cells : List (List ℕ)} {
       ) (part-back (rowIn (r .rows) j .part))))
       ∙ sym (is-table _ (r .rows) rowLimit blankRow (long .rows) (λ j l. refl)))
 
-  pub columns-back : columnsIn xs ys ≡ r .columns
+  columns-back : columnsIn xs ys ≡ r .columns
   unfolding columnsIn
   columns-back =
       rw (spread .across, spread .back)

@@ -17,8 +17,10 @@ use Rattle.circuit.specs.declared.Answer.{Answer}
 use Rattle.circuit.specs.declared.Reading.{Reading}
 use Rattle.circuit.specs.declared.Record.{Record}
 use Rattle.laws.proofs.Judging.{Numbered, judge-fail, pass-done, judge-rest, judge-stop, judge-of, zero-pass, zero-done, set-up-numbered, set-up-done}
-use Rattle.file.specs.Held.{Bytes, Held}
-use Rattle.file.proofs.Judged.{read-judged, judged-sound, write-stop, write-on}
+use Rattle.blocks.specs.Placing.{Bytes}
+use Rattle.blocks.proofs.Judged.{judged-sound}
+use Rattle.file.specs.Held.{Held}
+use Rattle.file.proofs.Reported.{read-judged, write-stop, write-on}
 use Rattle.file.proofs.RoundTrips.{read-then-written, written-then-read}
 use Rattle.uses.specs.Promises.{RewriteCall, rewriteRules, Rewrites, Rereads}
 

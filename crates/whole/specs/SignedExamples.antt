@@ -4,14 +4,15 @@ use mathlib.Core.Bool.{_&&_}
 use Prim.Native.Nat.{ℕ, _^_, _<_}
 use native.Mathlib.Omega.{arith}
 use lib.Dec.{eqb, leb}
-use lib.IntN.{ℤ, pos, negsuc, _+ℤ_, _*ℤ_, natAbs}
+use lib.IntN.{ℤ, pos, negsuc, _+ℤ_, _-ℤ_, _*ℤ_, natAbs}
 use lib.Signed.{leZ, shrZ, quotZ}
 use mir.Syntax.{w8, w32, w64}
 use mir.Val.{SFits, Fits, toZ, ofZ}
 use mir.ValLaws.{toZ-ofZ}
 use Rattle.whole.specs.Integers.{at, _⊞_}
 use Rattle.whole.specs.Order.{Abs}
-use Rattle.whole.specs.Signed.{fits-abs, scaled-fits, shr-fits, trunc-fits, toZ-narrow, toZ-u32, within-test, zero-test, signed, zfits}
+use Rattle.whole.specs.Signed.{fits-abs, scaled-fits, shr-fits, trunc-fits, toZ-narrow, toZ-u32, returned, within-test, zero-test}
+use Rattle.whole.specs.Signed.{wide, wide-same, apart-same, signed, zfits}
 
 -- g·t of 24 and 38 bits, and its quotient by 2^24 either way
 ratio-of-a-wave : (g : ℕ) (t : ℤ) → g < 2 ^ 24 → natAbs t < 2 ^ 38 → SFits w64 (shrZ (pos g *ℤ t) (2 ^ 24)) × SFits w64 (quotZ (pos g *ℤ t) (pos (2 ^ 24)))
@@ -34,6 +35,16 @@ byte-as-i32 n h = toZ-narrow w32 n h (omega arith)
 
 u32-as-i64 : (n : ℕ) → Fits w32 n → toZ w64 n ≡ pos n
 u32-as-i64 n h = toZ-u32 n h
+
+i32-as-i64 : (z : ℤ) → Abs z 1000 → wide z ≡ z
+i32-as-i64 z h = wide-same (omega zfits)
+
+-- of two numbers of 32 bits, in 64
+exact-difference : (a b : ℤ) → SFits w32 a → SFits w32 b → toZ w64 (ofZ w64 (wide b -ℤ wide a)) ≡ b -ℤ a
+exact-difference a b h k = apart-same h k
+
+handed-back : (z : ℤ) → SFits w64 z → toZ w64 (ofZ w64 z) ≡ z
+handed-back z h = returned z (h .sfits)
 
 found-by-search : (z : ℤ) → SFits w64 z → SFits w64 (shrZ (quotZ z (pos 3)) (2 ^ 24))
 found-by-search z h = search signed

@@ -2,10 +2,12 @@
 use mathlib.Core.Path.{_≡_, sym, _∙_}
 use native.Mathlib.Omega.{arith}
 use borrow.Author.Needs.{needs}
+use borrow.Author.Tests.{eq-eqb}
+use lib.ListN.{length}
 use Rattle.circuit.specs.Numbers.{handed}
-use Rattle.circuit.specs.File.{WriteCall, writeReport}
+use Rattle.circuit.specs.File.{fileLength, WriteCall, writeReport}
 use Rattle.circuit.specs.declared.Answer.the-variants.{Length}
-use Rattle.file.proofs.Judged.{write-stop, write-on, writes-file, writes-nothing}
+use Rattle.file.proofs.Reported.{write-stop, write-on, writes-file, writes-nothing}
 use Rattle.file.proofs.write.Statement.{statement}
 use Rattle.file.proofs.write.Tie as tie
 
@@ -19,10 +21,15 @@ returns c =
     let w = called (c .before .before) in
     writes-nothing w Length (sym (write-stop w (λ z. omega (arith, c .if1 .taken)))) (λ z. omega arith)
 
--- past the length, what set-up hands back is what writing does
+-- past the length
+long : (c : tie.After-number) → length (called (c .before .before .before .before) .buffer) ≡ fileLength
+unfolding called
+long c = omega (arith, c .before .before .if1 .left)
+
+-- what set-up hands back there is what writing does
 reported : (c : tie.After-number) → handed (c .before .set-up .result .answer) ≡ writeReport (called (c .before .before .before .before))
 unfolding called
-reported c = c .before .set-up .ensures .number ∙ sym (write-on (called (c .before .before .before .before)) (omega (arith, c .before .before .if1 .left)))
+reported c = c .before .set-up .ensures .number ∙ sym (write-on (called (c .before .before .before .before)) (long c))
 
 returns-2 : tie.Need-returns-2
 unfolding called
@@ -30,7 +37,7 @@ returns-2 c =
     let wrote = c .before .before in
     let at = wrote .before .before in
     let n = at .before in
-    writes-file (called (n .before .before .before .before)) _ _ (reported n) (omega (arith, n .number .ensures, at .if2 .taken)) (wrote .write-blocks .ensures)
+    writes-file (called (n .before .before .before .before)) _ _ (reported n) (omega (arith, n .number .ensures, at .if2 .taken)) (wrote .write .ensures ∙ rw (eq-eqb _ _ (long n)))
 
 returns-3 : tie.Need-returns-3
 unfolding called

@@ -8,7 +8,7 @@ use Rattle.circuit.specs.SetUp.{setUpRows}
 use Rattle.circuit.specs.File.{readReport, recordOf}
 use Rattle.circuit.specs.Text.{text}
 use Rattle.circuit.specs.Listing.{acceptedLines, refusedLine}
-use Rattle.file.proofs.Judged.{record-read}
+use Rattle.file.proofs.Reported.{record-read}
 use Rattle.listing.specs.Lines.{numbersLine}
 use Rattle.listing.proofs.Reading.{set-up-accepts, listing-accepted, listing-refused, lists}
 use Rattle.listing.proofs.list.Statement.{statement}

@@ -14,25 +14,25 @@ use Rattle.setup.proofs.find_ports.Statement.{statement}
 use Rattle.setup.proofs.find_ports.Tie as tie
 
 -- what the lists stand for
-abbrev given : tie.After-record-answer → Record
+abbrev given : tie.After-answer → Record
 given c =
     let g = c .before .args in
     recordIn (g .h) (rowsIn (g .cells .now) (g .microvolts .now) (g .values .now)) (columnsIn (g .xs .now) (g .ys .now))
 
 -- an answer that refuses is set-up's
-told : (c : tie.After-record-answer) → 0 < handed (c .record-answer .result) .number → handed (c .record-answer .result) ≡ setUpReport (given c)
-told c above = c .record-answer .ensures ∙ sym (set-up-judged (given c) ∙ else-first _ _ (rw (c .record-answer .ensures) at above))
+told : (c : tie.After-answer) → 0 < handed (c .answer .result) .number → handed (c .answer .result) ≡ setUpReport (given c)
+told c above = c .answer .ensures ∙ sym (set-up-judged (given c) ∙ else-first _ _ (rw (c .answer .ensures) at above))
 
 returns : tie.Need-returns
 returns c =
     let at = c .before .before .before in
-    let above : 0 < handed (at .record-answer .result) .number = omega (arith, c .before .before .number .ensures, c .before .if1 .taken) in
+    let above : 0 < handed (at .answer .result) .number = omega (arith, c .before .before .number .ensures, c .before .if1 .taken) in
     let same = told at above in
     refuses (c .refused .ensures .1) (ap handed (c .refused .ensures .0) ∙ same) (rw same at above)
 
 prepare-requires : tie.Need-prepare-requires
 prepare-requires c κs =
-    ap (λ n. n .number) (sym (c .before .before .record-answer .ensures)) ∙ sym (c .before .number .ensures) ∙ c .if1 .left
+    ap (λ n. n .number) (sym (c .before .before .answer .ensures)) ∙ sym (c .before .number .ensures) ∙ c .if1 .left
 
 pub find-ports-spec : {M : Type 1} → statement M
 find-ports-spec =

@@ -1,7 +1,7 @@
 -- `rewrite` meets its contract: what reading refuses, and else what writing hands back of what was read.
 use mathlib.Core.Path.{_∙_, sym}
 use borrow.Author.Needs.{needs}
-use Rattle.file.proofs.Owned.{bytes-held}
+use Rattle.blocks.proofs.Digits.{bytes-held}
 use Rattle.uses.proofs.Trips.{read-refused, read-accepted}
 use Rattle.uses.proofs.rewrite.Statement.{statement}
 use Rattle.uses.proofs.rewrite.Tie as tie

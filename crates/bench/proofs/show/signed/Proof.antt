@@ -3,7 +3,7 @@ use borrow.Author.Needs.{needs}
 use native.Mathlib.Omega.{arith}
 use mir.Syntax.{w32}
 use mir.ValLaws.{toZ-ofZ}
-use Rattle.file.proofs.Patterns.{turned, not-below}
+use Rattle.blocks.proofs.Patterns.{turned, not-below}
 use Rattle.bench.proofs.show.signed.Statement.{statement}
 use Rattle.bench.proofs.show.signed.Tie as tie
 

@@ -4,9 +4,9 @@ use borrow.Author.Needs.{needs}
 use lib.IntN.{ℤ, _-ℤ_}
 use mir.Syntax.{w64}
 use mir.Val.{toZ, ofZ}
+use Rattle.whole.specs.Signed.{wide, widened, wide-same, apart-fits, apart-same}
 use Rattle.circuit.specs.declared.Column.{Column}
 use Rattle.engine.specs.Curve.{lineBy}
-use Rattle.engine.proofs.Wide.{wide, widened, wide-same, apart-fits, apart-same}
 use Rattle.engine.proofs.curve.between.Statement.{statement}
 use Rattle.engine.proofs.curve.between.Tie as tie
 

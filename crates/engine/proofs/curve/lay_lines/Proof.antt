@@ -5,12 +5,12 @@ use mathlib.Core.Path.{_≡_, ap, _∙_}
 use borrow.Author.Needs.{needs}
 use lib.IntN.{pos, negsuc}
 use Rattle.whole.specs.Order.{zarith}
+use Rattle.whole.specs.Signed.{wide, widened, wide-same}
 use Rattle.circuit.specs.Curve.{oneDown}
 use Rattle.circuit.specs.declared.Column.{Column}
 use Rattle.sheet.specs.Sheet.{columnsIn}
 use Rattle.engine.specs.Curve.{lineOn, beyond, Laid}
 use Rattle.engine.proofs.Lines.{Plotted, plotted, level, spans, inner-line, laid-last, laid-more}
-use Rattle.engine.proofs.Wide.{wide, widened, wide-same}
 use Rattle.engine.proofs.curve.lay_lines.Statement.{statement}
 use Rattle.engine.proofs.curve.lay_lines.Tie as tie
 

@@ -7,6 +7,7 @@ use mir.Facts.{toZ-ofZ}
 use Rattle.whole.specs.Integers.{at, is-neg}
 use Rattle.whole.specs.Order.{zarith, Abs, abs-neg, natAbs-neg, ltZ-true, ltZ-false}
 use Rattle.whole.specs.Fraction.{whole}
+use Rattle.whole.specs.Signed.{returned}
 use Rattle.circuit.specs.Curve.{waveLimit, drawn, lineOf, line, towardZero, reflected}
 use Rattle.circuit.specs.declared.CurveKind.{CurveKind}
 use Rattle.circuit.specs.declared.CurveKind.the-variants.{Unset, Single, Pair}
@@ -14,20 +15,21 @@ use Rattle.circuit.specs.declared.Record.{Record}
 use Rattle.laws.specs.Accepted.{Crosses}
 use Rattle.laws.proofs.Line.{pair-left, pair-right}
 use Rattle.laws.proofs.Drawn.{answer-never-exceeds}
-use Rattle.engine.specs.Curve.{Mirrors, Drawing}
-use Rattle.engine.proofs.Limits.{opposite-fits, opposite-reads, limit-reads, returned}
+use Rattle.parts.specs.Parts.{mirrorOf}
+use Rattle.engine.specs.Curve.{Drawing}
+use Rattle.engine.proofs.Limits.{opposite-fits, opposite-reads, limit-reads}
 use Rattle.engine.proofs.curve.reflect.Statement.{statement}
 use Rattle.engine.proofs.curve.reflect.Tie as tie
 
 module _ (r : Record) {m a : ℤ} (small : Abs a waveLimit) where
-  mirrored : (k : CurveKind) → r .kind ≡ k → Crosses k r → Mirrors k m → a <ℤ m → reflected r a ≡ negℤ (towardZero (drawn r (whole (negℤ a))))
-  unfolding Crosses Mirrors
+  mirrored : (k : CurveKind) → r .kind ≡ k → Crosses k r → m ≡ mirrorOf k → a <ℤ m → reflected r a ≡ negℤ (towardZero (drawn r (whole (negℤ a))))
+  unfolding Crosses mirrorOf
   mirrored Unset e c h l = absurd c
   mirrored Single e c h l = absurd (let none : ⊥ = omega (zarith, is-neg (at (pos waveLimit))) in none)
   mirrored Pair e c h l = pair-left r e a (rw h at l)
 
-  straight : (k : CurveKind) → r .kind ≡ k → Crosses k r → Mirrors k m → m ≤ℤ a → reflected r a ≡ towardZero (drawn r (whole a))
-  unfolding Crosses Mirrors reflected line
+  straight : (k : CurveKind) → r .kind ≡ k → Crosses k r → m ≡ mirrorOf k → m ≤ℤ a → reflected r a ≡ towardZero (drawn r (whole a))
+  unfolding Crosses mirrorOf reflected line
   straight Unset e c h l = absurd c
   straight Single e c h l = ap (λ (k : CurveKind). towardZero (lineOf k (drawn r) (whole a))) e
   straight Pair e c h l = pair-right r e a (rw h at l)
@@ -37,7 +39,7 @@ module _ (c : tie.After-drawn) where
   abbrev start : tie.Start
   start = c .before .before .before
 
-  opposite : (r : Record) → Drawing r (start .args .lines .now) → Mirrors (r .kind) (start .args .mirror)
+  opposite : (r : Record) → Drawing r (start .args .lines .now) → start .args .mirror ≡ mirrorOf (r .kind)
       → reflected r (start .args .wave .0) ≡ negℤ (c .drawn .result)
   opposite r d m =
       let less = ltZ-true _ _ (rw (limit-reads (start .pre .1), toZ-ofZ (start .fits .mirror)) at (c .before .if1 .taken)) in

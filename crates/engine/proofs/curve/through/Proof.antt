@@ -2,8 +2,8 @@
 use mathlib.Core.Path.{_≡_}
 use borrow.Author.Needs.{needs}
 use mir.Facts.{toZ-ofZ}
+use Rattle.whole.specs.Signed.{wide, widened, wide-same}
 use Rattle.engine.proofs.Lines.{height, climb, base-fits, span-fits}
-use Rattle.engine.proofs.Wide.{wide, widened, wide-same}
 use Rattle.engine.proofs.curve.through.Statement.{statement}
 use Rattle.engine.proofs.curve.through.Tie as tie
 

@@ -6,7 +6,8 @@ use mathlib.Core.Path.{_≡_, refl, ap, _∙_}
 use lib.ListN.{length, length-set}
 use Rattle.circuit.specs.Record.{rowLimit}
 use Rattle.sheet.specs.Sheet.{rowsIn, partIn}
-use Rattle.engine.specs.Plan.{roleOf, Roled}
+use Rattle.parts.specs.Parts.{roleOf}
+use Rattle.engine.specs.Plan.{Roled}
 use Rattle.engine.proofs.Fill.{filled-more}
 use Rattle.sheet.proofs.Back.{part-read}
 use Rattle.engine.proofs.plan.roles_of.Statement.{statement}

@@ -1,19 +1,19 @@
 -- `shape_of` meets its contract: 2N + 1 rows have N adaptors, and the tap's row is in use.
 use Prim.Native.Nat.{_-_}
 use native.Mathlib.Omega.{arith}
-use mathlib.Core.Path.{_≡_, refl, ap, _∙_, subst}
+use mathlib.Core.Path.{_≡_, refl, ap, _∙_}
 use mathlib.Core.Bool.{cond}
 use lib.Dec.{eqb}
 use lib.ListN.{getD}
 use borrow.Author.Needs.{needs}
+use Rattle.whole.specs.Signed.{returned}
 use Rattle.circuit.specs.Record.{top}
 use Rattle.circuit.specs.declared.Record.{Record}
 use Rattle.sheet.specs.Sheet.{headingOf}
 use Rattle.sheet.specs.declared.Heading.{Heading}
-use Rattle.engine.specs.Curve.{Mirrors}
+use Rattle.parts.specs.Parts.{mirrorOf}
 use Rattle.engine.specs.Plan.{tapRow}
 use Rattle.engine.proofs.Laying.{tap-inside}
-use Rattle.engine.proofs.Limits.{returned}
 use Rattle.engine.proofs.plan.shape_of.Statement.{statement}
 use Rattle.engine.proofs.plan.shape_of.Tie as tie
 
@@ -40,7 +40,7 @@ returns c r prepared e h =
       omega (arith, count (at .before) r e, h .accepted .odd),
       refl,
       c .before .wide2 .ensures ∙ ap (λ j. getD slots j 0) (read at r e) ∙ h .slot (tapRow r) (tap-inside r (h .accepted)),
-      rw (returned _ (c .mirror .ok)) (subst (λ (h : Heading). Mirrors (h .kind) (c .mirror .result)) e (c .mirror .ensures)),
+      returned _ (c .mirror .ok) ∙ c .mirror .ensures ∙ ap (λ (h : Heading). mirrorOf (h .kind)) e,
     )
 
 pub shape-of-spec : {M : Type 1} → statement M

@@ -6,7 +6,8 @@ use mathlib.Core.Path.{_≡_, refl, _∙_}
 use mathlib.Core.List.{List}
 use Rattle.circuit.specs.Record.{rowIn}
 use Rattle.circuit.specs.declared.Row.{Row}
-use Rattle.engine.specs.Plan.{roleOf, Roled, rank}
+use Rattle.parts.specs.Parts.{roleOf}
+use Rattle.engine.specs.Plan.{Roled, rank}
 use Rattle.engine.proofs.Giving.{Given, given-start, given-more, next-small}
 use Rattle.engine.proofs.Ranks.{rank-below}
 use Rattle.engine.proofs.Roles.{role}

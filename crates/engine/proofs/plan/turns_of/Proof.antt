@@ -3,10 +3,10 @@ use Prim.Native.Nat.{_-_, _<_, _≤_}
 use native.Mathlib.Omega.{arith}
 use mathlib.Core.Path.{_≡_, refl, ap, _∙_}
 use lib.IntN.{pos}
+use Rattle.whole.specs.Signed.{returned}
 use Rattle.circuit.specs.Record.{rowLimit}
 use Rattle.sheet.specs.Sheet.{partIn}
-use Rattle.engine.specs.Plan.{turnOf}
-use Rattle.engine.proofs.Limits.{returned}
+use Rattle.parts.specs.Parts.{turnOf}
 use Rattle.sheet.proofs.Back.{part-read}
 use Rattle.engine.proofs.Placing.{Placed, Own, laid-own, placed-start, placed-more, placed-all}
 use Rattle.engine.proofs.plan.turns_of.Statement.{statement}

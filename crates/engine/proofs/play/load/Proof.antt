@@ -7,10 +7,10 @@ use lib.ListN.{length-map}
 use mir.Syntax.{w32}
 use mir.Val.{SFits}
 use mir.Facts.{toZ-ofZ}
+use Rattle.whole.specs.Signed.{returned}
 use Rattle.circuit.specs.Sample.{rounded, partSends, storedAt}
 use Rattle.circuit.specs.Record.{rowLimit}
 use Rattle.sheet.specs.Sheet.{partIn}
-use Rattle.engine.proofs.Limits.{returned}
 use Rattle.engine.proofs.Loading.{loaded}
 use Rattle.sheet.proofs.Back.{part-read}
 use Rattle.engine.proofs.Placing.{Placed, Own, laid-own, placed-start, placed-more}

@@ -10,15 +10,15 @@ use mir.Syntax.{w32}
 use mir.Val.{SFits}
 use mir.Facts.{toZ-ofZ}
 use Rattle.whole.specs.Order.{Abs, abs-as}
-use Rattle.whole.specs.Signed.{zfits}
+use Rattle.whole.specs.Signed.{zfits, returned}
 use Rattle.circuit.specs.Curve.{waveLimit}
 use Rattle.circuit.specs.Sample.{storedAt}
 use Rattle.circuit.specs.Record.{rowLimit}
 use Rattle.circuit.specs.declared.Row.{Row}
 use Rattle.sheet.specs.Sheet.{rowsIn}
-use Rattle.engine.specs.Plan.{partTaken}
+use Rattle.parts.specs.Parts.{partTaken}
 use Rattle.engine.proofs.Fill.{filled-more}
-use Rattle.engine.proofs.Limits.{returned, limit-reads}
+use Rattle.engine.proofs.Limits.{limit-reads}
 use Rattle.engine.proofs.Loading.{zeros-at, outOf, taken, all-taken}
 use Rattle.sheet.proofs.Back.{part-read}
 use Rattle.engine.proofs.Placing.{Own, laid-own}

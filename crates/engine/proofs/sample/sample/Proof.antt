@@ -11,6 +11,7 @@ use lib.ListN.{set}
 use mir.Syntax.{w32, w64}
 use mir.Val.{SFits, toZ, ofZ}
 use mir.Facts.{toZ-ofZ}
+use Rattle.whole.specs.Signed.{wide, widened, wide-same}
 use Rattle.circuit.specs.Counting.{within}
 use Rattle.circuit.specs.Record.{sourceLimit}
 use Rattle.circuit.specs.Curve.{waveLimit, reflected}
@@ -21,7 +22,6 @@ use Rattle.engine.specs.declared.plan.Shape.{Shape}
 use Rattle.engine.specs.Sweep.{Climbs}
 use Rattle.engine.specs.Sample.{Fixed, Loaded, LaidOut, Works}
 use Rattle.engine.proofs.Limits.{within-abs}
-use Rattle.engine.proofs.Wide.{wide, widened, wide-same}
 use Rattle.engine.proofs.Sampling.{Raised, Landed}
 use Rattle.engine.proofs.Sampling as Sampling
 use Rattle.engine.proofs.Finishing as Finishing

@@ -4,7 +4,7 @@ use native.Mathlib.Nat.{le-refl}
 use native.Mathlib.Omega.{arith}
 use mathlib.Core.Path.{ap}
 use borrow.Author.Needs.{needs}
-use Rattle.file.proofs.Placed.{placed-copy}
+use Rattle.blocks.proofs.Placed.{placed-copy}
 use Rattle.listing.proofs.text.put_text.Statement.{statement}
 use Rattle.listing.proofs.text.put_text.Tie as tie
 

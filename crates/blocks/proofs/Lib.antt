@@ -1,0 +1,9 @@
+pub mod Digits
+pub mod Patterns
+pub mod Placed
+pub mod Blocks
+pub mod Sealed
+pub mod Pieces
+pub mod Sizes
+pub mod Fields
+pub mod Judged

@@ -1,0 +1,34 @@
+-- The loop has filled the first i columns of the table.
+use mathlib.Core.Path.{refl, _∙_}
+use Prim.Native.Nat.{_-_}
+use native.Mathlib.Omega.{arith}
+use mathlib.Core.List.{_++_, append-nil}
+use lib.ListN.{drop}
+use Rattle.circuit.specs.Counting.{table}
+use Rattle.circuit.specs.Record.{columnLimit}
+use Rattle.circuit.specs.File.{columnFrom, columnPlace}
+use Rattle.laws.proofs.Counting.{table-next}
+use Rattle.laws.proofs.Looping.{Upto, onward, whole}
+use Rattle.blocks.proofs.column.columns.Statement.{statement}
+use Rattle.blocks.proofs.column.columns.Tie as tie
+
+abbrev Inv-loop : tie.InvT-loop
+Inv-loop s columns₀ i₀ columns i = Upto (λ n. table (λ k. columnFrom (columnPlace k) s) n ++ drop n columns₀) columnLimit i columns
+
+abbrev μ-loop : tie.MeasureT-loop
+μ-loop s columns₀ i₀ columns i = columnLimit - i
+
+loop-holds : tie.Need-loop-holds Inv-loop μ-loop
+unfolding table
+loop-holds c = record { inside = omega arith; value = refl }
+
+loop-again : tie.Need-loop-again Inv-loop μ-loop
+loop-again c =
+    let at = c .before .before .loop in
+    onward (at .inv) (omega arith) (table-next _ _ (at .i) (at .inv .value) (omega arith) (c .column-from .ensures))
+
+pub columns-spec : {M : Type 1} → statement M
+columns-spec =
+    tie.close
+    (tie.spec Inv-loop μ-loop loop-holds (λ c. omega arith) (λ c. omega arith) (λ c κs. omega arith) (λ c. omega arith) (λ c. omega arith)
+    (λ c. omega arith) (λ c. omega arith) loop-again (λ c. whole (c .before .loop .inv) (c .loop-test .left) ∙ append-nil _))

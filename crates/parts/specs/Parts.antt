@@ -1,0 +1,47 @@
+-- What one part of a circuit is to a run.
+use Prim.Native.Nat.{ℕ}
+use mathlib.Core.Bool.{cond}
+use lib.IntN.{ℤ, pos, negsuc, negℤ}
+use Rattle.circuit.specs.Curve.{waveLimit}
+use Rattle.circuit.specs.Run.{isReactive}
+use Rattle.circuit.specs.declared.CurveKind.{CurveKind}
+use Rattle.circuit.specs.declared.CurveKind.the-variants.{Unset, Single, Pair}
+use Rattle.circuit.specs.declared.Element.{Element}
+use Rattle.circuit.specs.declared.Element.the-variants.{Resistor, Capacitor, Inductor, Input, Steady}
+use Rattle.circuit.specs.declared.Part.{Part}
+use Rattle.circuit.specs.declared.Part.the-variants.{Blank, Leaf, Adaptor}
+
+-- what a row is to a run: 0 a reactive leaf, 1 another leaf, 2 the input, 3 an adaptor, 4 a blank row
+unfoldable pub roleOf : Part → ℕ
+roleOf Blank = 4
+roleOf (Leaf (Resistor r)) = 1
+roleOf (Leaf (Capacitor c)) = 0
+roleOf (Leaf (Inductor l)) = 0
+roleOf (Leaf (Input r)) = 2
+roleOf (Leaf (Steady r v)) = 1
+roleOf (Adaptor a) = 3
+
+-- an inductor stores the opposite of the wave that reaches it
+abbrev pub turnOf : Part → ℤ
+turnOf Blank = pos 0
+turnOf (Leaf (Resistor r)) = pos 0
+turnOf (Leaf (Capacitor c)) = pos 0
+turnOf (Leaf (Inductor l)) = negsuc 0
+turnOf (Leaf (Input r)) = pos 0
+turnOf (Leaf (Steady r v)) = pos 0
+turnOf (Adaptor a) = pos 0
+
+-- a reactive leaf's stored wave; any other has none
+abbrev pub takenOut : Element → ℤ → ℤ
+takenOut e w = cond (isReactive e) w (pos 0)
+
+abbrev pub partTaken : Part → ℤ → ℤ
+partTaken Blank w = pos 0
+partTaken (Leaf e) w = takenOut e w
+partTaken (Adaptor a) w = pos 0
+
+-- waves below the mirror are answered by the opposite of the answer to their opposite: of a pair all that are negative, of a single none
+unfoldable pub mirrorOf : CurveKind → ℤ
+mirrorOf Unset = pos 0
+mirrorOf Single = negℤ (pos waveLimit)
+mirrorOf Pair = pos 0
