@@ -155,9 +155,21 @@ laid-more {columns} {width} {i} {lines} {l} d inside few e = record {
   last = getD-set-other lines i width l [] (λ same. omega arith) ∙ d .last;
 }
 
+-- ---- the edges behind a wave
+
+-- the edge before n, where there is one, is not above it
+pub record Behind (lines : List (List ℤ)) (a : ℤ) (n : ℕ) : Type 0 where
+  pub edge : (k : ℕ) → n ≡ suc k → edgeOf (getD lines k []) ≤ℤ a
+
+pub behind-none : {lines : List (List ℤ)} {a : ℤ} → Behind lines a 0
+behind-none = record { edge = λ k e. absurd (let none : ⊥ = omega arith in none) }
+
+pub behind-next : {lines : List (List ℤ)} {a : ℤ} {n : ℕ} (k : ℕ) → k + 1 ≡ n → edgeOf (getD lines k []) ≤ℤ a → Behind lines a n
+behind-next k e h = record { edge = λ m f. let same : m ≡ k = omega arith in rw same h }
+
 -- ---- the definition's pieces
 
-module _ {r : Record} {lines : List (List ℤ)} (d : Drawing r lines) {a : ℤ} (w : Abs a waveLimit) where
+module _ {r : Record} {width : ℕ} {lines : List (List ℤ)} (d : Drawing r width lines) {a : ℤ} (w : Abs a waveLimit) where
   abbrev columns : List Column
   columns = r .columns
 
@@ -193,16 +205,11 @@ module _ {r : Record} {lines : List (List ℤ)} (d : Drawing r lines) {a : ℤ} 
   edge-is zero l = ap edgeOf (d .laid .line 0 l)
   edge-is (suc n) l = ap edgeOf (d .laid .line (suc n) l)
 
-  -- edges passed are at columns: no wave passes the one after them
-  pub passed-most : (n : ℕ) → ((k : ℕ) → k < n → edgeOf (getD lines k []) ≤ℤ a) → n ≤ r .width
-  passed-most n left = by (decLt (r .width) n)
-    where
-      by : Dec (r .width < n) → n ≤ r .width
-      by (yes l) = let end = rw (d .laid .last) at (left (r .width) l) in absurd (let none : ⊥ = omega zarith in none)
-      by (no f) = omega arith
+  -- no wave passes the edge after the last column
+  pub none-past : a <ℤ edgeOf (getD lines width [])
+  none-past = rw (d .many, d .laid .last) (omega zarith)
 
-  -- the edges before n are passed, and edge n is not
-  pub passed-count : (n : ℕ) → ((k : ℕ) → k < n → edgeOf (getD lines k []) ≤ℤ a) → a <ℤ edgeOf (getD lines n []) → n ≡ passed r (whole a)
-  passed-count n left right =
-      let most = passed-most n left in
-      sym (passed-is (d .drawn) a n most (λ k e. rw (← edge-is k (omega arith)) (left k (omega arith))) (λ l. rw (← edge-is n l) right))
+  -- the edge before n is passed, and edge n is not
+  pub passed-count : (n : ℕ) → n ≤ r .width → Behind lines a n → a <ℤ edgeOf (getD lines n []) → n ≡ passed r (whole a)
+  passed-count n most left right =
+      sym (passed-is (d .drawn) a n most (λ k e. rw (← edge-is k (omega arith)) (left .edge k e)) (λ l. rw (← edge-is n l) right))

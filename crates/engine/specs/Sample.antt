@@ -94,7 +94,7 @@ pub record Fixed (p : Plan) (r : Record) : Type 0 where
   pub mirror : p .shape .mirror ≡ mirrorOf (r .kind)
   pub staged : Staged r (p .joints)
   pub turn : (j : ℕ) → j < r .count → storedAt (p .turns) (slotOf r j) ≡ turnOf (partAt r j)
-  pub drawn : Drawing r (p .lines)
+  pub drawn : Drawing r (p .shape .width) (p .lines)
 
 -- the rows' ratios after set-up, of a record that it does not refuse
 pub record Ready (r : Record) (ratios : List ℕ) : Type 0 where

@@ -62,7 +62,7 @@ pub(crate) fn lay_lines(width: usize, xs: &Coordinates, ys: &Coordinates, lines:
     requires { ⌜ ((r : Record) × (r .columns ≡ columnsIn (now xs) (now ys)) × (r .width ≡ width) × Drawn r × (width ≤ columnLimit))
         × (length (now lines) ≡ lineLimit) ⌝ }
     ensures { λ u. ⌜ ((r : Record) → r .columns ≡ columnsIn (now (xs .entry)) (now (ys .entry)) → r .width ≡ width → Drawn r → width ≤ columnLimit
-        → Drawing r (now (lines .exit))) ⌝ }
+        → Drawing r width (now (lines .exit))) ⌝ }
 {
     let last = column(xs, ys, width - 1);
     let l = through(BEYOND, last, -1, 1);
@@ -78,37 +78,49 @@ pub(crate) fn lay_lines(width: usize, xs: &Coordinates, ys: &Coordinates, lines:
     }
 }
 
-// The number of the line that holds at a wave, by a walk from the left: how many columns have an x that is not above it.
-fn segment(lines: &[Line; LINES], wave: i64) -> usize
-    requires { ⌜ ((r : Record) × Drawing r (now lines)) × Abs wave waveLimit ⌝ }
-    ensures { λ n. ⌜ ((r : Record) → Drawing r (now (lines .entry)) → (n ≤ r .width) × (n ≡ passed r (whole wave))) ⌝ }
+// The number of the line that holds at a wave: how many columns have an x that is not above it. It is one of `low` to `high`, and each turn halves
+// them. Both arms ask whether one is left: asked once for both, the compiler picks the half without a jump, and every turn waits for the one before.
+fn segment(width: usize, lines: &[Line; LINES], wave: i64) -> usize
+    requires { ⌜ ((r : Record) × Drawing r width (now lines)) × Abs wave waveLimit ⌝ }
+    ensures { λ n. ⌜ ((r : Record) → Drawing r width (now (lines .entry)) → (n ≤ r .width) × (n ≡ passed r (whole wave))) ⌝ }
 {
-    let mut n = 0;
-    while lines[n][0] <= wave {
-        n += 1;
+    let mut low = 0;
+    let mut high = width;
+    loop {
+        let middle = (low + high) / 2;
+        if lines[middle][0] <= wave {
+            if middle + 1 == high {
+                break high;
+            }
+            low = middle + 1;
+        } else {
+            if middle == low {
+                break low;
+            }
+            high = middle;
+        }
     }
-    n
 }
 
 // The drawn line at a wave.
-fn drawn(lines: &[Line; LINES], wave: i64) -> i64
-    requires { ⌜ ((r : Record) × Drawing r (now lines)) × Abs wave waveLimit ⌝ }
-    ensures { λ a. ⌜ ((r : Record) → Drawing r (now (lines .entry)) → a ≡ towardZero (Curve.drawn r (whole wave))) ⌝ }
+fn drawn(width: usize, lines: &[Line; LINES], wave: i64) -> i64
+    requires { ⌜ ((r : Record) × Drawing r width (now lines)) × Abs wave waveLimit ⌝ }
+    ensures { λ a. ⌜ ((r : Record) → Drawing r width (now (lines .entry)) → a ≡ towardZero (Curve.drawn r (whole wave))) ⌝ }
 {
-    let n = segment(lines, wave);
+    let n = segment(width, lines, wave);
     let l = lines[n];
     (l[1] * wave + l[2]) / ((l[3] as u32) as i64 + 1)
 }
 
 // The wave that the diode sends back, with one division.
-pub(crate) fn reflect(mirror: i64, lines: &[Line; LINES], wave: Wave) -> Wave
-    requires { ⌜ ((r : Record) × Drawing r (now lines) × (mirror ≡ mirrorOf (r .kind))) × Abs (wave .0) waveLimit ⌝ }
-    ensures { λ a. ⌜ ((r : Record) → Drawing r (now (lines .entry)) → mirror ≡ mirrorOf (r .kind) → a .0 ≡ reflected r (wave .0)) ⌝ }
+pub(crate) fn reflect(mirror: i64, width: usize, lines: &[Line; LINES], wave: Wave) -> Wave
+    requires { ⌜ ((r : Record) × Drawing r width (now lines) × (mirror ≡ mirrorOf (r .kind))) × Abs (wave .0) waveLimit ⌝ }
+    ensures { λ a. ⌜ ((r : Record) → Drawing r width (now (lines .entry)) → mirror ≡ mirrorOf (r .kind) → a .0 ≡ reflected r (wave .0)) ⌝ }
 {
     let a = wave.0;
     if a < mirror {
-        Wave(-drawn(lines, -a))
+        Wave(-drawn(width, lines, -a))
     } else {
-        Wave(drawn(lines, a))
+        Wave(drawn(width, lines, a))
     }
 }

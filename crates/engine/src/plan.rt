@@ -50,6 +50,8 @@ pub(crate) struct Shape {
     pub tap: usize,
     // waves below this one go to the diode as their opposites
     pub mirror: i64,
+    // how many columns the curve has
+    pub width: usize,
 }
 
 // A slot or a row, as an index.
@@ -188,7 +190,7 @@ fn turns_of(
 fn shape_of(h: Heading, q: usize, slots: &[u8; ROWS]) -> Shape
     requires { ⌜ ((r : Record) × (prepared : List ℕ) × (h ≡ headingOf r) × Layable r prepared (now slots)) ⌝ }
     ensures { λ s. ⌜ ((r : Record) (prepared : List ℕ) → h ≡ headingOf r → Layable r prepared (now (slots .entry))
-        → (s .adaptors ≡ adaptorsOf r) × (s .reactive ≡ q) × (s .tap ≡ slotOf r (tapRow r)) × (s .mirror ≡ mirrorOf (r .kind))) ⌝ }
+        → (s .adaptors ≡ adaptorsOf r) × (s .reactive ≡ q) × (s .tap ≡ slotOf r (tapRow r)) × (s .mirror ≡ mirrorOf (r .kind)) × (s .width ≡ r .width)) ⌝ }
 {
     let count = wide(h.count);
     let kind = h.kind;
@@ -198,6 +200,7 @@ fn shape_of(h: Heading, q: usize, slots: &[u8; ROWS]) -> Shape
         reactive: q,
         tap: wide(slots[read]),
         mirror: mirror(kind),
+        width: wide(h.width),
     }
 }
 

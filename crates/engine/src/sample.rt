@@ -154,7 +154,7 @@ pub(crate) fn sample(
     if !risen.in_limit() {
         return Outcome::Over;
     }
-    let answer = reflect(shape.mirror, lines, risen);
+    let answer = reflect(shape.mirror, shape.width, lines, risen);
     let top = answer.0;
     down[FLOOR + n] = top;
     sweep_down(joins, firsts, seconds, ratios, n, up, down);

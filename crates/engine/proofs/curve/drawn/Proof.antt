@@ -22,7 +22,7 @@ module _ (c : tie.After-segment) where
   abbrev Line : Record → Type 0
   Line r = Steps (getD (start .args .lines .now) (c .segment .result) []) (start .args .wave) (towardZero (drawn r (whole (start .args .wave))))
 
-  line : (r : Record) → Drawing r (start .args .lines .now) → Line r
+  line : (r : Record) → Drawing r (start .args .width) (start .args .lines .now) → Line r
   unfolding drawn
   line r d =
       let found = rw (limit-reads (start .pre .1)) at (c .segment .ensures r d) in

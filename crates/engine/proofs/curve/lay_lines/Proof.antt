@@ -1,7 +1,7 @@
 -- `curve::lay_lines` lays the line past the columns, and then the others from the left. The loop's invariant: the first i are laid.
 use Prim.Native.Nat.{_-_, _≤_}
 use native.Mathlib.Omega.{arith}
-use mathlib.Core.Path.{_≡_, ap, _∙_}
+use mathlib.Core.Path.{_≡_, sym, ap, _∙_}
 use borrow.Author.Needs.{needs}
 use lib.IntN.{pos, negsuc}
 use Rattle.whole.specs.Order.{zarith}
@@ -75,7 +75,7 @@ loop-again c =
 returns : tie.Need-returns Inv-loop μ-loop
 returns c = λ r e f d narrow.
     let all : c .before .loop .i ≡ r .width = omega arith in
-    record { drawn = d; narrow = rw f narrow; laid = rw (all, ← f, ← e) at (c .before .loop .inv .3) }
+    record { many = sym f; drawn = d; narrow = rw f narrow; laid = rw (all, ← f, ← e) at (c .before .loop .inv .3) }
 
 pub lay-lines-spec : {M : Type 1} → statement M
 lay-lines-spec =

@@ -39,7 +39,7 @@ module _ (c : tie.After-drawn) where
   abbrev start : tie.Start
   start = c .before .before .before
 
-  opposite : (r : Record) → Drawing r (start .args .lines .now) → start .args .mirror ≡ mirrorOf (r .kind)
+  opposite : (r : Record) → Drawing r (start .args .width) (start .args .lines .now) → start .args .mirror ≡ mirrorOf (r .kind)
       → reflected r (start .args .wave .0) ≡ negℤ (c .drawn .result)
   opposite r d m =
       let less = ltZ-true _ _ (rw (limit-reads (start .pre .1), toZ-ofZ (start .fits .mirror)) at (c .before .if1 .taken)) in

@@ -1,59 +1,92 @@
--- `curve::segment` walks to the first edge above the wave. The loop's invariant: the edges before n are not above it, so that n is no further
--- than the last column.
-use Prim.Native.Nat.{ℕ, _-_, _<_}
+-- `curve::segment` halves the numbers that are left. The loop's invariant: the edge before `low` is passed and edge `high` is not, so that either is
+-- the answer once the two are neighbours of the edge in the middle. It asks nothing of the edges between.
+use Prim.Native.Nat.{ℕ, _+_, _-_, _/_, _<_, _≤_}
 use native.Mathlib.Omega.{arith}
-use mathlib.Core.Path.{_≡_}
+use mathlib.Core.Path.{_≡_, refl}
 use mathlib.Core.List.{[]}
-use borrow.Author.Count.{below-none, below-more}
 use borrow.Author.Needs.{needs}
 use lib.ListN.{getD}
 use lib.IntN.{ℤ}
-use lib.Signed.{_≤ℤ_}
+use lib.Signed.{_≤ℤ_, _<ℤ_}
 use mir.Syntax.{w64}
 use mir.Val.{toZ, ofZ}
 use Rattle.whole.specs.Order.{leZ-true, leZ-false}
-use Rattle.engine.specs.Curve.{edgeOf, lineLimit}
+use Rattle.whole.specs.Fraction.{whole}
+use Rattle.circuit.specs.Curve.{passed}
+use Rattle.circuit.specs.declared.Record.{Record}
+use Rattle.engine.specs.Curve.{edgeOf, lineLimit, Drawing}
 use Rattle.engine.proofs.Limits.{limit-reads}
-use Rattle.engine.proofs.Lines.{passed-most, passed-count}
+use Rattle.engine.proofs.Lines.{Behind, behind-none, behind-next, none-past, passed-count}
 use Rattle.engine.proofs.curve.segment.Statement.{statement}
 use Rattle.engine.proofs.curve.segment.Tie as tie
 
 abbrev Inv-loop : tie.InvT-loop
-Inv-loop lines wave n₀ n = (n < lineLimit) × ((k : ℕ) → k < n → edgeOf (getD lines k []) ≤ℤ toZ w64 wave)
+Inv-loop width lines wave low₀ high₀ low high =
+    (low < high) × (high ≤ width) × Behind lines (toZ w64 wave) low × (toZ w64 wave <ℤ edgeOf (getD lines high []))
 
 abbrev μ-loop : tie.MeasureT-loop
-μ-loop lines wave n₀ n = lineLimit - n
+μ-loop width lines wave low₀ high₀ low high = high - low
+
+loop-holds : tie.Need-loop-holds Inv-loop μ-loop
+loop-holds c =
+    let d = c .pre .0 .1 in
+    let w = c .pre .1 in
+    (omega (arith, d .many, d .drawn .two), omega arith, behind-none, rw (limit-reads w) (none-past d w))
+
+-- ---- a turn, at the edge in the middle
+
+few : (c : tie.At-loop Inv-loop μ-loop) → (c .loop .low + c .loop .high) / 2 < lineLimit
+few c = let d = c .before .pre .0 .1 in omega (arith, d .many, d .narrow)
 
 module _ (c : tie.After-if12 Inv-loop μ-loop) where
-  abbrev start : tie.Start Inv-loop μ-loop
-  start = c .before .before
+  abbrev turn : tie.At-loop Inv-loop μ-loop
+  turn = c .before
 
-  abbrev edge : ℤ
-  edge = edgeOf (getD (start .args .lines .now) (c .before .loop .n) [])
+  abbrev wave : ℤ
+  wave = toZ w64 (ofZ w64 (turn .before .args .wave))
 
-  edge-reads : toZ w64 (ofZ w64 edge) ≡ edge
+  abbrev edge : ℕ → ℤ
+  edge n = edgeOf (getD (turn .before .args .lines .now) n [])
+
+  abbrev middle : ℕ
+  middle = (turn .loop .low + turn .loop .high) / 2
+
+  edge-reads : toZ w64 (ofZ w64 (edge middle)) ≡ edge middle
   edge-reads = search needs
 
+  -- a number between its two edges is the answer
+  found : (n : ℕ) → n ≤ turn .before .args .width → Behind (turn .before .args .lines .now) wave n → wave <ℤ edge n
+      → (r : Record) → Drawing r (turn .before .args .width) (turn .before .args .lines .now) → (n ≤ r .width) × (n ≡ passed r (whole (turn .before .args .wave)))
+  found n most left right r d =
+      let w = turn .before .pre .1 in
+      let within : n ≤ r .width = omega (arith, d .many) in
+      (within, passed-count d w n within (rw (limit-reads w) at left) (rw (limit-reads w) at right))
+
+behind : (c : tie.Then1 Inv-loop μ-loop) → edge (c .before) (middle (c .before)) ≤ℤ wave (c .before)
+behind c = leZ-true _ _ (rw (edge-reads (c .before)) at (c .if1 .taken))
+
+ahead : (c : tie.Else1 Inv-loop μ-loop) → wave (c .before) <ℤ edge (c .before) (middle (c .before))
+ahead c = leZ-false _ _ (rw (edge-reads (c .before)) at (c .if1 .left))
+
 loop-again : tie.Need-loop-again Inv-loop μ-loop
-loop-again c =
-    let at = c .before in
-    let known = start at .pre in
-    let wave = limit-reads (known .1) in
-    let a = start at .args in
-    let h : edge at ≤ℤ a .wave = leZ-true _ _ (rw (edge-reads at, wave) at (c .if1 .taken)) in
-    let left = below-more (λ k. edgeOf (getD (a .lines .now) k []) ≤ℤ a .wave) _ (rw wave at (at .before .loop .inv .1)) h in
-    (omega (arith, passed-most (known .0 .1) (known .1) _ left, known .0 .1 .narrow), rw wave left)
+loop-again c = let inv = turn (c .before .before) .loop .inv in (omega arith, inv .1, behind-next _ refl (behind (c .before)), inv .3)
+
+loop-again-2 : tie.Need-loop-again-2 Inv-loop μ-loop
+loop-again-2 c = let inv = turn (c .before .before) .loop .inv in (omega arith, omega arith, inv .2, ahead (c .before))
 
 returns : tie.Need-returns Inv-loop μ-loop
 returns c =
-    let at = c .before in
-    let wave = start at .pre .1 in
-    let left = rw (limit-reads wave) at (at .before .loop .inv .1) in
-    let right = leZ-false _ _ (rw (edge-reads at, limit-reads wave) at (c .if1 .left)) in
-    λ r d. (passed-most d wave _ left, passed-count d wave _ left right)
+    let at = c .before .before in
+    let inv = turn at .loop .inv in
+    found at _ (inv .1) (behind-next _ (c .if2 .taken) (behind (c .before))) (inv .3)
+
+returns-2 : tie.Need-returns-2 Inv-loop μ-loop
+returns-2 c =
+    let at = c .before .before in
+    found at _ (omega arith) (turn at .loop .inv .2) (rw (c .if3 .taken) at (ahead (c .before)))
 
 pub segment-spec : {M : Type 1} → statement M
 segment-spec =
     tie.close
-    (tie.spec Inv-loop μ-loop (λ c. (omega arith, below-none _)) (λ c. omega arith) (λ c. omega arith) (λ c. search needs)
-    (λ c. omega arith) (λ c. omega arith) loop-again returns)
+    (tie.spec Inv-loop μ-loop loop-holds (λ c. omega (arith, few c)) (λ c. omega (arith, few c)) few (λ c. omega arith) (λ c. omega arith)
+    (λ c. omega arith) (λ c. omega arith) loop-again (λ c. omega arith) loop-again-2 returns returns-2)

@@ -94,7 +94,7 @@ returns c =
         mirror = shape .3;
         staged = at-joints t .lay-joints .ensures r refl same h;
         turn = λ j l. t .turns-of .ensures r (seated s) j (omega arith);
-        drawn = lines .lay-lines .ensures r refl (sym (w .wide2 .ensures)) (h .accepted .drawn) (narrow w);
+        drawn = rw (shape .4 ∙ sym (w .wide2 .ensures)) (lines .lay-lines .ensures r refl (sym (w .wide2 .ensures)) (h .accepted .drawn) (narrow w));
       },
       h,
     )

@@ -35,16 +35,18 @@ element-copy-out-wide c =
 
 returns : tie.Need-returns
 returns c r prepared e h =
-    let at = c .before .before .before in
+    let read-slot = c .before .before in
+    let at = read-slot .before .before in
     let slots = at .before .before .args .slots .now in (
       omega (arith, count (at .before) r e, h .accepted .odd),
       refl,
-      c .before .wide2 .ensures ∙ ap (λ j. getD slots j 0) (read at r e) ∙ h .slot (tapRow r) (tap-inside r (h .accepted)),
-      returned _ (c .mirror .ok) ∙ c .mirror .ensures ∙ ap (λ (h : Heading). mirrorOf (h .kind)) e,
+      read-slot .wide2 .ensures ∙ ap (λ j. getD slots j 0) (read at r e) ∙ h .slot (tapRow r) (tap-inside r (h .accepted)),
+      returned _ (c .before .mirror .ok) ∙ c .before .mirror .ensures ∙ ap (λ (h : Heading). mirrorOf (h .kind)) e,
+      c .wide3 .ensures ∙ ap (λ (h : Heading). h .width) e,
     )
 
 pub shape-of-spec : {M : Type 1} → statement M
 shape-of-spec =
     tie.close
     (tie.spec (λ c κs. search needs) (λ c. let p = c .before .pre in omega (arith, count c (p .0) (p .2), p .3 .accepted .some))
-    (λ c κs. search needs) element-copy-out-wide (λ c κs. search needs) (λ c κs. search needs) returns)
+    (λ c κs. search needs) element-copy-out-wide (λ c κs. search needs) (λ c κs. search needs) (λ c κs. search needs) returns)
