@@ -310,16 +310,32 @@ static void store_waves(void)
 #define TWO_AT_A_TIME
 #endif
 
-INLINE i64 drawn(i64 x)
+/* Halves the lines that are left, 0 to `high` at first. Asked once for both arms whether one is left, clang would choose the half without a
+ * jump; each step then waits for the one before it, and a sample takes longer. */
+INLINE const struct line *line_at(i64 x, unsigned long high)
 {
-    const struct line *l = line;
-    while (l[1].edge <= x) l++;
+    unsigned long low = 0;
+    for (;;) {
+        unsigned long middle = (low + high) / 2;
+        if (line[middle + 1].edge <= x) {
+            if (middle + 1 == high) return &line[high];
+            low = middle + 1;
+        } else {
+            if (middle == low) return &line[low];
+            high = middle;
+        }
+    }
+}
+
+INLINE i64 drawn(i64 x, unsigned long width)
+{
+    const struct line *l = line_at(x, width);
     return (l->rise * x + l->base) / l->run;
 }
 
-INLINE i64 reflect(i64 x, int pair)
+INLINE i64 reflect(i64 x, int pair, unsigned long width)
 {
-    return pair && x < 0 ? -drawn(-x) : drawn(x);
+    return pair && x < 0 ? -drawn(-x, width) : drawn(x, width);
 }
 
 static int leaf_over(void)
@@ -333,6 +349,7 @@ static int leaf_over(void)
 INLINE long work(const u8 *in, i32 *out, long n, int pair)
 {
     const i32 *const start = out;
+    const unsigned long width = file.width;
     const long joints = adaptors, kept = reactive & ~1L, ends = leaves & ~1L;     /* even, for the compiler to see */
     i64 *const sent = &up[ends], *const arriving = &down[ends];
     for (const u8 *const end = in + 3 * n; in != end; in += 3) {
@@ -348,7 +365,7 @@ INLINE long work(const u8 *in, i32 *out, long n, int pair)
 
         i64 risen = up[top];
         if (risen > WAVE_LIMIT || risen < -WAVE_LIMIT) return out - start;
-        down[top] = reflect(risen, pair);
+        down[top] = reflect(risen, pair, width);
 
         for (long k = joints - 1; k >= 0; k--) {
             const struct adaptor *a = &adaptor[k];

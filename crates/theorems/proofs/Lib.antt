@@ -1,6 +1,5 @@
 pub mod Straying
 pub mod Bound
-pub mod Tight
 pub mod Cutting
 pub mod Takes
 pub mod RunBound

@@ -1,6 +1,5 @@
 pub mod Rounding
 pub mod Limit
-pub mod Tight
 pub mod Pieces
 pub mod Takes
 pub mod Curve

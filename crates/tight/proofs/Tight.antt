@@ -31,8 +31,8 @@ use Rattle.circuit.proofs.Circuits.{ohms, input, resistor, capacitor, joins, co
 use Rattle.laws.specs.Accepted.{adaptorLimit, Accepted}
 use Rattle.laws.proofs.Counting.{every-on, every-true, getD-table}
 use Rattle.laws.proofs.Judging.{set-up-done}
 use Rattle.theorems.specs.Limit.{leastLimit, exactOutput, exactKept}
-use Rattle.theorems.specs.Tight.{Beyond, Strays}
+use Rattle.tight.specs.Tight.{Beyond, Strays}
 
 -- ---- with no adaptor the only row is the input, and nothing is stored
 
