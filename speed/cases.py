@@ -94,12 +94,29 @@ def row_bytes(kind, a, b):
     return struct.pack("<BBBx12x", kind, a, b) if kind >= SERIES else struct.pack("<B3xid", kind, a, b)
 
 
-def circuit(shape, count, width, kind):
-    """The bytes of a circuit file. The tap is row 0, a capacitor."""
-    rows = (chain if shape == "chain" else tree)(count)
-    heading = struct.pack("<HBBBBxxIxxxxd", 1, count, 0, 1 + (kind == "pair"), width, RATE, ports(rows)[-1])
+def file_of(rows, width, kind):
+    """The bytes of a circuit file. The tap is row 0."""
+    heading = struct.pack("<HBBBBxxIxxxxd", 1, len(rows), 0, 1 + (kind == "pair"), width, RATE, ports(rows)[-1])
     points = b"".join(struct.pack("<ii", *c) for c in columns(width, kind))
     return block(0, heading) + block(1, b"".join(row_bytes(*r) for r in rows)) + block(2, points)
+
+
+def circuit(shape, count, width, kind):
+    """A chain or a tree; row 0 is a capacitor."""
+    return file_of((chain if shape == "chain" else tree)(count), width, kind)
+
+
+def lone(width):
+    """The input alone against a single: the wave that reaches the diode is the sample."""
+    return file_of([LAST_LEAF], width, "single")
+
+
+def held(width, passed, samples):
+    """The same sample over and over, that has passed so many of the single's columns."""
+    edges = [x for x, _ in columns(width, "single")]
+    edges = [edges[0] - 200_000, *edges, edges[-1] + 200_000]
+    microvolts = (edges[passed] + edges[passed + 1]) // 2
+    return microvolts.to_bytes(3, "little", signed=True) * samples
 
 
 def take(samples):
