@@ -1,9 +1,9 @@
--- `curve::segment` halves the numbers that are left. The loop's invariant: the edge before `low` is passed and edge `high` is not, so that either is
--- the answer once the two are neighbours of the edge in the middle. It asks nothing of the edges between.
+-- `curve::segment` halves the numbers that are left. The loop's invariant: the edge before `low` is passed and edge `high` is not. So the last number
+-- that is left lies between its own two edges, and nothing is asked of the edges on the way.
 use Prim.Native.Nat.{ℕ, _+_, _-_, _/_, _<_, _≤_}
 use native.Mathlib.Omega.{arith}
 use mathlib.Core.Path.{_≡_, refl}
-use mathlib.Core.List.{[]}
+use mathlib.Core.List.{List, []}
 use borrow.Author.Needs.{needs}
 use lib.ListN.{getD}
 use lib.IntN.{ℤ}
@@ -42,11 +42,17 @@ module _ (c : tie.After-if12 Inv-loop μ-loop) where
   abbrev turn : tie.At-loop Inv-loop μ-loop
   turn = c .before
 
+  abbrev start : tie.Start Inv-loop μ-loop
+  start = turn .before
+
+  abbrev lines : List (List ℤ)
+  lines = start .args .lines .now
+
   abbrev wave : ℤ
-  wave = toZ w64 (ofZ w64 (turn .before .args .wave))
+  wave = toZ w64 (ofZ w64 (start .args .wave))
 
   abbrev edge : ℕ → ℤ
-  edge n = edgeOf (getD (turn .before .args .lines .now) n [])
+  edge n = edgeOf (getD lines n [])
 
   abbrev middle : ℕ
   middle = (turn .loop .low + turn .loop .high) / 2
@@ -55,10 +61,10 @@ module _ (c : tie.After-if12 Inv-loop μ-loop) where
   edge-reads = search needs
 
   -- a number between its two edges is the answer
-  found : (n : ℕ) → n ≤ turn .before .args .width → Behind (turn .before .args .lines .now) wave n → wave <ℤ edge n
-      → (r : Record) → Drawing r (turn .before .args .width) (turn .before .args .lines .now) → (n ≤ r .width) × (n ≡ passed r (whole (turn .before .args .wave)))
+  found : (n : ℕ) → n ≤ start .args .width → Behind lines wave n → wave <ℤ edge n
+      → (r : Record) → Drawing r (start .args .width) lines → (n ≤ r .width) × (n ≡ passed r (whole (start .args .wave)))
   found n most left right r d =
-      let w = turn .before .pre .1 in
+      let w = start .pre .1 in
       let within : n ≤ r .width = omega (arith, d .many) in
       (within, passed-count d w n within (rw (limit-reads w) at left) (rw (limit-reads w) at right))
 
