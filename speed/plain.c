@@ -310,8 +310,8 @@ static void store_waves(void)
 #define TWO_AT_A_TIME
 #endif
 
-/* Halves the lines that are left, 0 to `high` at first. Asked once for both arms whether one is left, clang would choose the half without a
- * jump; each step then waits for the one before it, and a sample takes longer. */
+/* Halves the lines that remain, 0 to `high` at first. Asked once for both arms whether only one does, clang may choose the half without a jump,
+ * and each step then waits for the one before it. */
 INLINE const struct line *line_at(i64 x, unsigned long high)
 {
     unsigned long low = 0;

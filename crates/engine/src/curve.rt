@@ -79,8 +79,8 @@ pub(crate) fn lay_lines(width: usize, xs: &Coordinates, ys: &Coordinates, lines:
 }
 
 // The number of the line that holds at a wave, by halving: how many columns have an x that is not above it. It is one of `low` to `high`, and the
-// search is left as soon as one is left. Both arms ask for that: asked once behind them, the compiler would choose the half without a jump, and each
-// turn would wait for the one before it.
+// search ends the moment that only one of them remains. Both arms ask for that: asked once for both, a compiler may choose the half without a jump,
+// and each turn then waits for the one before it.
 fn segment(width: usize, lines: &[Line; LINES], wave: i64) -> usize
     requires { ⌜ ((r : Record) × Drawing r width (now lines)) × Abs wave waveLimit ⌝ }
     ensures { λ n. ⌜ ((r : Record) → Drawing r width (now (lines .entry)) → (n ≤ r .width) × (n ≡ passed r (whole wave))) ⌝ }

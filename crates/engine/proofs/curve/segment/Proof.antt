@@ -1,5 +1,5 @@
--- `curve::segment` halves the numbers that are left. The loop's invariant: the edge before `low` is passed and edge `high` is not. So the last number
--- that is left lies between its own two edges, and nothing is asked of the edges on the way.
+-- `curve::segment` halves the numbers that remain. The loop's invariant: the edge before `low` is passed and edge `high` is not. So the last that
+-- remains lies between its own two edges, and nothing is asked of the edges on the way.
 use Prim.Native.Nat.{ℕ, _+_, _-_, _/_, _<_, _≤_}
 use native.Mathlib.Omega.{arith}
 use mathlib.Core.Path.{_≡_, refl}
