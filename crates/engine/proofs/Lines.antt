@@ -1,6 +1,5 @@
 -- The lines of a curve: no step of one leaves 64 bits, each is the definition's piece, and the first edge above a wave counts the columns passed.
 use Prim.Native.Nat.{ℕ, zero, suc, _+_, _-_, _^_, _<_, _≤_, max}
-use native.Mathlib.Decide.{decLt}
 use native.Mathlib.Nat.{eq-or-lt-of-le}
 use native.Mathlib.Omega.{arith}
 use mathlib.Core.Path.{_≡_, refl, sym, ap, _∙_}

@@ -25,7 +25,7 @@ ghost use Rattle.circuit.specs.Record.{rowLimit, partAt, adaptorsOf};
 ghost use Rattle.circuit.specs.Sample.{storedAt};
 ghost use Rattle.circuit.specs.declared.Row.{Row};
 ghost use Rattle.circuit.specs.declared.Record.{Record};
-ghost use Rattle.sheet.specs.Sheet.{headingOf, rowsIn, columnsIn, recordIn};
+ghost use Rattle.sheet.specs.Sheet.{headingOf, rowsIn, columnsIn, recordIn, partIn};
 ghost use Rattle.parts.specs.Parts.{turnOf, mirrorOf};
 ghost use Rattle.engine.specs.Curve.{lineLimit};
 ghost use Rattle.engine.specs.Plan.{Roled, rank, slotIn, slotOf};
@@ -80,6 +80,14 @@ fn code_of(join: Join) -> u8
     }
 }
 
+// A row's part.
+pub(crate) fn part_at(cells: &Cells, microvolts: &Microvolts, values: &Values, i: usize) -> Part
+    requires { ⌜ i < rowLimit ⌝ }
+    ensures { λ p. ⌜ p ≡ partIn (now (cells .entry)) (now (microvolts .entry)) (now (values .entry)) i ⌝ }
+{
+    part_in(cells[i], microvolts[i], values[i])
+}
+
 // The rows' roles.
 fn roles_of(count: usize, cells: &Cells, microvolts: &Microvolts, values: &Values) -> [u8; ROWS]
     requires { ⌜ count ≤ rowLimit ⌝ }
@@ -87,7 +95,7 @@ fn roles_of(count: usize, cells: &Cells, microvolts: &Microvolts, values: &Value
 {
     let mut roles = [0u8; ROWS];
     for i in 0..count {
-        let part = part_in(cells[i], microvolts[i], values[i]);
+        let part = part_at(cells, microvolts, values, i);
         roles[i] = role_of(part);
     }
     roles
@@ -148,7 +156,7 @@ fn lay_joints(
         → Staged r (jointsOf (now (joins .exit)) (now (firsts .exit)) (now (seconds .exit)) (now (ratios .exit)))) ⌝ }
 {
     for i in 0..count {
-        let part = part_in(cells[i], microvolts[i], values[i]);
+        let part = part_at(cells, microvolts, values, i);
         match part {
             Part::Blank => {}
             Part::Leaf(_) => {}
@@ -180,7 +188,7 @@ fn turns_of(
 {
     let mut turns = [0i64; ROWS];
     for i in 0..count {
-        let part = part_in(cells[i], microvolts[i], values[i]);
+        let part = part_at(cells, microvolts, values, i);
         let s = wide(slots[i]);
         turns[s] = turn(part);
     }

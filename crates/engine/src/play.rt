@@ -4,6 +4,7 @@ use crate::curve::Line;
 use crate::plan::JOINTS;
 use crate::plan::Shape;
 use crate::plan::lay_out;
+use crate::plan::part_at;
 use crate::plan::wide;
 use crate::sample::Outcome;
 use crate::sample::sample;
@@ -20,7 +21,6 @@ use sheet::Coordinates;
 use sheet::Heading;
 use sheet::Microvolts;
 use sheet::Values;
-use sheet::part_in;
 ghost use mathlib.Core.Path.{_≡_};
 ghost use mathlib.Core.List.{List};
 ghost use Prim.Native.Nat.{_<_};
@@ -50,7 +50,7 @@ pub(crate) fn load(
 {
     let mut up = [0i64; ROWS];
     for i in 0..count {
-        let part = part_in(cells[i], microvolts[i], values[i]);
+        let part = part_at(cells, microvolts, values, i);
         let sent = part_sends(part, state.waves[i]);
         let next = sent.0;
         let s = wide(slots[i]);
@@ -76,7 +76,7 @@ pub(crate) fn unload(
         waves: [0i32; ROWS],
     };
     for i in 0..count {
-        let part = part_in(cells[i], microvolts[i], values[i]);
+        let part = part_at(cells, microvolts, values, i);
         let s = wide(slots[i]);
         let taken = part_taken(part, Wave(up[s]));
         let stored = taken.0 as i32;

@@ -10,10 +10,9 @@ use Rattle.circuit.specs.Record.{rowLimit, rowIn, partAt, isAdaptor}
 use Rattle.circuit.specs.declared.Row.{Row}
 use Rattle.circuit.specs.declared.Part.the-variants.{Adaptor}
 use Rattle.laws.specs.Accepted.{adaptorLimit}
-use Rattle.sheet.specs.Sheet.{rowsIn, partIn}
+use Rattle.sheet.specs.Sheet.{rowsIn}
 use Rattle.engine.specs.Plan.{floor, jointsOf}
 use Rattle.engine.proofs.Entering.{Filled, high, lower, filled-none, filled-over, filled-more, filled-all}
-use Rattle.sheet.proofs.Back.{part-read}
 use Rattle.engine.proofs.plan.lay_joints.Statement.{statement}
 use Rattle.engine.proofs.plan.lay_joints.Tie as tie
 
@@ -27,22 +26,13 @@ abbrev μ-loop : tie.MeasureT-loop
 loop-holds : tie.Need-loop-holds Inv-loop μ-loop
 loop-holds c = (omega arith, omega (arith, c .pre .0 .3 .accepted .short), filled-none (c .pre .1))
 
--- the part that was read
-module _ (c : tie.After-part-in Inv-loop μ-loop) where
-  abbrev read : tie.After-part-in-arg2 Inv-loop μ-loop
-  read = c .before .before
-
+-- where the part has been read
+module _ (c : tie.After-part-at Inv-loop μ-loop) where
   abbrev at-loop : tie.At-loop Inv-loop μ-loop
-  at-loop = read .before .before .before
+  at-loop = c .before .before
 
   abbrev start : tie.Start Inv-loop μ-loop
   start = at-loop .before
-
-  part : let a = start .args in c .part-in .result ≡ partIn (a .cells .now) (a .microvolts .now) (a .values .now) (at-loop .loop .i)
-  part =
-      let a = start .args in
-      let fits = read .part-in-arg2 .given in
-      part-read (a .cells .now) (a .microvolts .now) (a .values .now) (at-loop .loop .i) (omega arith) (record { sfits = fits }) (c .part-in .ensures)
 
 -- where an adaptor's slot is known
 module _ (c : tie.After-wide3 Inv-loop μ-loop) where
@@ -52,7 +42,7 @@ module _ (c : tie.After-wide3 Inv-loop μ-loop) where
   abbrev found : tie.After-part Inv-loop μ-loop
   found = second .before .before .before
 
-  abbrev at-part : tie.After-part-in Inv-loop μ-loop
+  abbrev at-part : tie.After-part-at Inv-loop μ-loop
   at-part = found .before .before
 
   -- its place is in range, as are its children and its ratio
@@ -64,7 +54,7 @@ module _ (c : tie.After-wide3 Inv-loop μ-loop) where
       let i = at-loop at-part .loop .i in
       let inside : i < laid .0 .count = omega (arith, laid .2) in
       let e : partAt (laid .0) i ≡ Adaptor a =
-      ap (λ (rows : List Row). rowIn rows i .part) (laid .1) ∙ sym (part at-part) ∙ found .part .given .1 in
+      ap (λ (rows : List Row). rowIn rows i .part) (laid .1) ∙ sym (at-part .part-at .ensures) ∙ found .part .given .1 in
       let slot = c .wide3 .ensures ∙ laid .3 .slot i inside in
       let h = high (laid .3) i a inside e in
       let under = lower (laid .3) i a e in (
@@ -82,7 +72,7 @@ entering c = c .before .before .before .before
 loop-again : tie.Need-loop-again Inv-loop μ-loop
 loop-again c =
     let l = at-loop (c .before) .loop in
-    let here = sym (part (c .before)) in
+    let here = sym (c .before .part-at .ensures) in
     ⊎-elim
     (λ w. rw (w .2, w .3, w .4, w .5) (omega arith, l .inv .1, filled-over (l .inv .2) (ap isAdaptor (here ∙ w .1 .given .1))))
     (⊎-elim
@@ -99,9 +89,8 @@ returns c = let l = c .before .loop in filled-all {n = l .i} (omega arith) (l .i
 pub lay-joints-spec : {M : Type 1} → statement M
 lay-joints-spec =
     tie.close
-    (tie.spec Inv-loop μ-loop loop-holds (λ c. omega arith) (λ c. omega arith) (λ c. omega arith) (λ c. omega arith) (λ c. omega arith)
-    (λ c. omega arith) (λ c κs. tt) (λ c. search needs) (λ c. search needs) (λ c. search needs) (λ c κs. tt) (λ c κs. tt) (λ c. omega arith)
-    (λ c κs. tt) (λ c. omega (arith, ready c)) (λ c. omega (arith, ready c)) (λ c κs. tt) (λ c. ready (c .before) .1) (λ c. ready (c .before) .2)
-    (λ c. ready (c .before .before) .1) (λ c. ready (c .before .before) .3) (λ c. ready (c .before .before .before) .1) (λ c. omega arith)
-    (λ c. omega arith) (λ c. record { sfits = ready (entering c) .4 }) (λ c. omega (arith, ready (entering c))) (λ c. ready (entering c) .1)
-    (λ c. omega arith) (λ c. omega arith) loop-again returns)
+    (tie.spec Inv-loop μ-loop loop-holds (λ c κs. omega arith) (λ c. search needs) (λ c. search needs) (λ c. search needs) (λ c κs. tt) (λ c κs. tt)
+    (λ c. omega arith) (λ c κs. tt) (λ c. omega (arith, ready c)) (λ c. omega (arith, ready c)) (λ c κs. tt) (λ c. ready (c .before) .1)
+    (λ c. ready (c .before) .2) (λ c. ready (c .before .before) .1) (λ c. ready (c .before .before) .3) (λ c. ready (c .before .before .before) .1)
+    (λ c. omega arith) (λ c. omega arith) (λ c. record { sfits = ready (entering c) .4 }) (λ c. omega (arith, ready (entering c)))
+    (λ c. ready (entering c) .1) (λ c. omega arith) (λ c. omega arith) loop-again returns)

@@ -9,7 +9,6 @@ use Rattle.sheet.specs.Sheet.{rowsIn, partIn}
 use Rattle.parts.specs.Parts.{roleOf}
 use Rattle.engine.specs.Plan.{Roled}
 use Rattle.engine.proofs.Fill.{filled-more}
-use Rattle.sheet.proofs.Back.{part-read}
 use Rattle.engine.proofs.plan.roles_of.Statement.{statement}
 use Rattle.engine.proofs.plan.roles_of.Tie as tie
 
@@ -21,23 +20,18 @@ abbrev μ-loop : tie.MeasureT-loop
 
 loop-again : tie.Need-loop-again Inv-loop μ-loop
 loop-again c =
-    let at-part = c .before in
-    let read = at-part .before .before in
-    let at-loop = read .before .before .before in
-    let l = at-loop .loop in
-    let a = at-loop .before .args in
-    let fits = read .part-in-arg2 .given in
-    let part = part-read (a .cells .now) (a .microvolts .now) (a .values .now) (l .i) (omega arith) (record { sfits = fits }) (at-part .part-in .ensures) in
+    let turn = c .before .before .before in
+    let l = turn .loop in
+    let a = turn .before .args in
     let v = c .role-of .result in (
       omega arith,
       length-set (l .roles) (l .i) v ∙ l .inv .1,
       filled-more (λ j x. x ≡ roleOf (partIn (a .cells .now) (a .microvolts .now) (a .values .now) j)) 0 (l .roles) (l .i) v
-          (omega (arith, l .inv .1)) (l .inv .2) (c .role-of .ensures ∙ ap roleOf part),
+          (omega (arith, l .inv .1)) (l .inv .2) (c .role-of .ensures ∙ ap roleOf (c .before .part-at .ensures)),
     )
 
 pub roles-of-spec : {M : Type 1} → statement M
 roles-of-spec =
     tie.close
-    (tie.spec Inv-loop μ-loop (λ c. (omega arith, refl, below-none _)) (λ c. omega arith) (λ c. omega arith) (λ c. omega arith)
-    (λ c. omega arith) (λ c. omega arith) (λ c. omega arith) (λ c κs. tt) (λ c κs. tt) (λ c. omega arith) (λ c. omega arith)
+    (tie.spec Inv-loop μ-loop (λ c. (omega arith, refl, below-none _)) (λ c κs. omega arith) (λ c κs. tt) (λ c. omega arith) (λ c. omega arith)
     (λ c. omega arith) loop-again (λ c j h. c .before .loop .inv .2 j (omega arith)))

@@ -7,7 +7,6 @@ use Rattle.whole.specs.Signed.{returned}
 use Rattle.circuit.specs.Record.{rowLimit}
 use Rattle.sheet.specs.Sheet.{partIn}
 use Rattle.parts.specs.Parts.{turnOf}
-use Rattle.sheet.proofs.Back.{part-read}
 use Rattle.engine.proofs.Placing.{Placed, Own, laid-own, placed-start, placed-more, placed-all}
 use Rattle.engine.proofs.plan.turns_of.Statement.{statement}
 use Rattle.engine.proofs.plan.turns_of.Tie as tie
@@ -23,14 +22,11 @@ loop-holds : tie.Need-loop-holds Inv-loop μ-loop
 loop-holds c = (laid-own (c .pre .1 .many) (c .pre .1 .layable), omega arith, placed-start refl)
 
 module _ (c : tie.After-turn Inv-loop μ-loop) where
-  abbrev at-part : tie.After-part-in Inv-loop μ-loop
+  abbrev at-part : tie.After-part-at Inv-loop μ-loop
   at-part = c .before .before .before
 
-  abbrev read : tie.After-part-in-arg2 Inv-loop μ-loop
-  read = at-part .before .before
-
   abbrev at-loop : tie.At-loop Inv-loop μ-loop
-  at-loop = read .before .before .before
+  at-loop = at-part .before .before
 
   -- the slot written to
   low : c .before .wide .result < rowLimit
@@ -39,10 +35,7 @@ module _ (c : tie.After-turn Inv-loop μ-loop) where
 loop-again : tie.Need-loop-again Inv-loop μ-loop
 loop-again c =
     let l = at-loop c .loop in
-    let a = at-loop c .before .args in
-    let fits = read c .part-in-arg2 .given in
-    let part = part-read (a .cells .now) (a .microvolts .now) (a .values .now) (l .i) (omega arith) (record { sfits = fits }) (at-part c .part-in .ensures) in
-    let value = returned _ (c .turn .ok) ∙ c .turn .ensures ∙ ap turnOf part in
+    let value = returned _ (c .turn .ok) ∙ c .turn .ensures ∙ ap turnOf (at-part c .part-at .ensures) in
     (l .inv .0, omega arith, placed-more (l .inv .0) (omega arith) (c .before .wide .ensures) value (l .inv .2))
 
 returns : tie.Need-returns Inv-loop μ-loop
@@ -54,6 +47,5 @@ returns c = λ r h.
 pub turns-of-spec : {M : Type 1} → statement M
 turns-of-spec =
     tie.close
-    (tie.spec Inv-loop μ-loop loop-holds (λ c. omega arith) (λ c. omega arith) (λ c. omega arith) (λ c. omega arith) (λ c. omega arith)
-    (λ c. omega arith) (λ c κs. tt) (λ c. omega arith) (λ c κs. tt) (λ c κs. tt) (λ c. omega (arith, low c)) low (λ c. omega arith)
-    (λ c. omega arith) loop-again returns)
+    (tie.spec Inv-loop μ-loop loop-holds (λ c κs. omega arith) (λ c. omega arith) (λ c κs. tt) (λ c κs. tt) (λ c. omega (arith, low c)) low
+    (λ c. omega arith) (λ c. omega arith) loop-again returns)

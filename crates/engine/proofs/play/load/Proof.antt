@@ -12,7 +12,6 @@ use Rattle.circuit.specs.Sample.{rounded, partSends, storedAt}
 use Rattle.circuit.specs.Record.{rowLimit}
 use Rattle.sheet.specs.Sheet.{partIn}
 use Rattle.engine.proofs.Loading.{loaded}
-use Rattle.sheet.proofs.Back.{part-read}
 use Rattle.engine.proofs.Placing.{Placed, Own, laid-own, placed-start, placed-more}
 use Rattle.engine.proofs.play.load.Statement.{statement}
 use Rattle.engine.proofs.play.load.Tie as tie
@@ -32,14 +31,11 @@ module _ (c : tie.After-wide Inv-loop μ-loop) where
   abbrev sent : tie.After-part-sends Inv-loop μ-loop
   sent = c .before .before .before
 
-  abbrev at-part : tie.After-part-in Inv-loop μ-loop
+  abbrev at-part : tie.After-part-at Inv-loop μ-loop
   at-part = sent .before .before
 
-  abbrev read : tie.After-part-in-arg2 Inv-loop μ-loop
-  read = at-part .before .before
-
   abbrev at-loop : tie.At-loop Inv-loop μ-loop
-  at-loop = read .before .before .before
+  at-loop = at-part .before .before
 
   -- the slot written to
   low : c .wide .result < rowLimit
@@ -51,10 +47,8 @@ loop-again c =
     let i = at-loop c .loop .i in
     let inv = at-loop c .loop .inv in
     let call = sent c in
-    let fits = read c .part-in-arg2 .given in
-    let part = part-read (a .cells .now) (a .microvolts .now) (a .values .now) i (omega arith) (record { sfits = fits }) (at-part c .part-in .ensures) in
     let stored : SFits w32 (storedAt (a .t6 .waves) i) = record { sfits = call .before .part-sends-arg .given } in
-    let sends = rw (toZ-ofZ stored) at (call .part-sends .ensures) ∙ ap (partSends rounded (pos 0) (storedAt (a .t6 .waves) i)) part in
+    let sends = rw (toZ-ofZ stored) at (call .part-sends .ensures) ∙ ap (partSends rounded (pos 0) (storedAt (a .t6 .waves) i)) (at-part c .part-at .ensures) in
     let wave = returned (call .part-sends .result .0) (c .before .before .struct-told .given .0 .1) ∙ sends in
     (inv .0, omega arith, placed-more (inv .0) (omega arith) (c .wide .ensures) wave (inv .2))
 
@@ -71,6 +65,5 @@ returns c r seat waves =
 pub load-spec : {M : Type 1} → statement M
 load-spec =
     tie.close
-    (tie.spec Inv-loop μ-loop loop-holds (λ c. omega arith) (λ c. omega arith) (λ c. omega arith) (λ c. omega arith) (λ c. omega arith)
-    (λ c. omega arith) (λ c κs. tt) (λ c. omega arith) (λ c. omega arith) (λ c κs. tt) (λ c. omega arith)
-    (λ c κs. tt) (λ c. omega (arith, low c)) low (λ c. omega arith) (λ c. omega arith) loop-again returns)
+    (tie.spec Inv-loop μ-loop loop-holds (λ c κs. omega arith) (λ c. omega arith) (λ c. omega arith) (λ c κs. tt) (λ c. omega arith) (λ c κs. tt)
+    (λ c. omega (arith, low c)) low (λ c. omega arith) (λ c. omega arith) loop-again returns)

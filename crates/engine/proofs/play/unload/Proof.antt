@@ -20,7 +20,6 @@ use Rattle.parts.specs.Parts.{partTaken}
 use Rattle.engine.proofs.Fill.{filled-more}
 use Rattle.engine.proofs.Limits.{limit-reads}
 use Rattle.engine.proofs.Loading.{zeros-at, outOf, taken, all-taken}
-use Rattle.sheet.proofs.Back.{part-read}
 use Rattle.engine.proofs.Placing.{Own, laid-own}
 use Rattle.engine.proofs.play.unload.Statement.{statement}
 use Rattle.engine.proofs.play.unload.Tie as tie
@@ -38,11 +37,11 @@ loop-holds : tie.Need-loop-holds Inv-loop μ-loop
 loop-holds c = (laid-own (c .pre .2 .many) (c .pre .2 .layable), omega arith, refl, λ j l. absurd (omega arith), λ j l. zeros-at rowLimit j)
 
 module _ (c : tie.After-wide Inv-loop μ-loop) where
-  abbrev read : tie.After-part-in-arg2 Inv-loop μ-loop
-  read = c .before .before .before .before
+  abbrev at-part : tie.After-part-at Inv-loop μ-loop
+  at-part = c .before .before
 
   abbrev at-loop : tie.At-loop Inv-loop μ-loop
-  at-loop = read .before .before .before
+  at-loop = at-part .before .before
 
   -- the slot read
   low : c .wide .result < rowLimit
@@ -65,11 +64,8 @@ module _ (c : tie.After-part-taken Inv-loop μ-loop) where
   out : c .part-taken .result .0 ≡ outOf rows (start .args .slots .now) (start .args .t6) (turn .loop .i)
   out =
       let a = start .args in
-      let fits = read at-wide .part-in-arg2 .given in
-      let told = at-wide .before .before .part-in .ensures in
-      let part = part-read (a .cells .now) (a .microvolts .now) (a .values .now) (turn .loop .i) (omega arith) (record { sfits = fits }) told in
-      rw (returned _ (c .before .t33 .given)) at (c .part-taken .ensures)
-      ∙ ap₂ (λ p s. partTaken p (storedAt (a .t6) s)) part (at-wide .wide .ensures)
+      rw (returned _ (c .before .t22 .given)) at (c .part-taken .ensures)
+      ∙ ap₂ (λ p s. partTaken p (storedAt (a .t6) s)) (at-part at-wide .part-at .ensures) (at-wide .wide .ensures)
 
   limited : Abs (c .part-taken .result .0) waveLimit
   limited = let t = taken (start .pre .2) (start .pre .3) (turn .loop .i) (omega arith) in abs-as (t .1) (sym (out ∙ t .0)) (omega arith)
@@ -104,7 +100,6 @@ returns c r ws seat l =
 pub unload-spec : {M : Type 1} → statement M
 unload-spec =
     tie.close
-    (tie.spec Inv-loop μ-loop loop-holds (λ c. omega arith) (λ c. omega arith) (λ c. omega arith) (λ c. omega arith) (λ c. omega arith)
-    (λ c. omega arith) (λ c κs. tt) (λ c. omega arith) (λ c κs. tt) (λ c. omega (arith, low c)) low (λ c κs. tt)
+    (tie.spec Inv-loop μ-loop loop-holds (λ c κs. omega arith) (λ c. omega arith) (λ c κs. tt) (λ c. omega (arith, low c)) low (λ c κs. tt)
     (λ c. rw (limit-reads (limited (c .before .before))) (short (c .before .before))) (λ c. omega arith)
     (λ c. omega (arith, turn (c .before .before) .loop .inv .2)) (λ c. omega arith) (λ c. omega arith) loop-again returns)
