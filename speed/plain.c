@@ -246,8 +246,10 @@ static struct line line[COLUMNS + 2];
 static _Alignas(16) i64 up[SLOTS], down[SLOTS];
 static _Alignas(16) i64 turn[SLOTS];    /* -1 at an inductor, which stores the negative of what arrives, and else 0 */
 
-static struct line through(struct column c, i64 rise, i64 run)
+/* Through a column with the slope from one column to another. */
+static struct line through(struct column c, struct column o, struct column n)
 {
+    i64 rise = (i64)n.y - o.y, run = (i64)n.x - o.x;
     return (struct line){ c.x, rise, c.y * run - rise * c.x, run };
 }
 
@@ -255,9 +257,9 @@ static void lay_curve(void)
 {
     const struct column *c = file.column;
     int width = file.width;
-    line[0] = through(c[0], 1, 1);
-    for (int j = 1; j < width; j++) line[j] = through(c[j - 1], (i64)c[j].y - c[j - 1].y, (i64)c[j].x - c[j - 1].x);
-    line[width] = through(c[width - 1], -1, 1);
+    line[0] = through(c[0], c[0], c[1]);
+    for (int j = 1; j < width; j++) line[j] = through(c[j - 1], c[j - 1], c[j]);
+    line[width] = through(c[width - 1], c[width - 2], c[width - 1]);
     line[width + 1].edge = 1LL << 62;   /* past every wave */
 }
 

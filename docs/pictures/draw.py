@@ -1,18 +1,15 @@
 #!/usr/bin/env python3
-# Draws the four pictures of this folder: tree.svg, curve.svg, flow.svg, bound.svg. From the repository's root:
+# Draws five pictures of this folder: tree.svg, curve.svg, ends.svg, flow.svg, bound.svg. From the repository's root:
 #
 #     python3 docs/pictures/draw.py
 #
 # Each run writes the same bytes. Nothing but Python's standard library is needed. The waves in tree.svg and bound.svg and the lines in
-# curve.svg are worked out here, by the rules of one sample and of the curve.
+# curve.svg and ends.svg are worked out here, by the rules of one sample and of the curve.
 import math
 import os
 import textwrap
 from fractions import Fraction
 from xml.sax.saxutils import escape
-
-# The rule past the last column: the slope there, and its words. If the rule changes, this line does.
-PAST_SLOPE, PAST_WORDS = (lambda columns: -1), "falls one for one"
 
 CURVE_K = [(0, 0), (1000, 1000), (2000, 0)]
 PARTS = 2**24
@@ -22,19 +19,20 @@ UP, DOWN, INK, GREY, PALE, REGION = "#1f6f8b", "#b5462f", "#222", "#666", "#f6f6
 
 # ---- one sample, rounded as the engine rounds (`whole`) or not at all
 
-def drawn(columns, x):
-    """The line of a pair through the columns."""
-    if x < 0:
-        return -drawn(columns, -x)
-    for (x0, y0), (x1, y1) in zip(columns, columns[1:]):
-        if x < x1:
-            return y0 + Fraction(y1 - y0, x1 - x0) * (x - x0)
-    x0, y0 = columns[-1]
-    return y0 + PAST_SLOPE(columns) * (x - x0)
+def single(columns, x):
+    """The line through the columns. Outside them it goes on with the slope of the first two, and of the last two."""
+    passed = sum(c <= x for c, _ in columns)
+    begin = min(max(passed - 1, 0), len(columns) - 2)
+    (x0, y0), (x1, y1) = columns[begin:begin + 2]
+    return y0 + Fraction(y1 - y0, x1 - x0) * (x - x0)
+
+
+def pair(columns, x):
+    return -single(columns, -x) if x < 0 else single(columns, x)
 
 
 def diode(columns, x, whole):
-    return math.trunc(drawn(columns, x)) if whole else drawn(columns, x)
+    return math.trunc(pair(columns, x)) if whole else pair(columns, x)
 
 
 def parallel_up(g, a1, a2, whole):
@@ -240,6 +238,17 @@ class Plot:
         for c in columns:
             self.p.circle(*self.on(*c), 4, ink=ink, fill=ink)
 
+    def ends(self, columns, sides):
+        """The line through the columns, and dashed as it goes on at these sides."""
+        for side in sides:
+            self.line([columns[-1 if side > 0 else 0], (side * self.reach, single(columns, side * self.reach))], ink=UP, width=2.5, dash="7 4")
+        self.line(columns, ink=UP, width=2.5)
+        self.columns(columns, UP)
+
+    def pair(self, columns):
+        self.line([(t, pair(columns, t)) for t in range(-self.reach, 1, 1000)], ink=UP, width=1.5, dash="2 3")
+        self.ends(columns, [1])
+
 
 def curve():
     p = Picture(
@@ -260,18 +269,15 @@ def curve():
         for i, line in enumerate(textwrap.wrap(words, 47)):
             p.text(x - 48, y + 312 + 18 * i, line, size=12)
 
-    # curve K
+    # accepted
     x = xs[0]
-    heading(x, "Accepted: curve K", CURVE_K)
+    gentle = [(0, 0), (1000, 1000), (2000, 500)]
+    heading(x, "Accepted", gentle)
     plot = Plot(p, x, y)
-    last, far = CURVE_K[-1][0], Plot.reach
-    plot.line([(last, drawn(CURVE_K, last)), (far, drawn(CURVE_K, far))], ink=UP, width=2.5, dash="7 4")
-    plot.line([(t, drawn(CURVE_K, t)) for t in range(-far, 1, 1000)], ink=UP, width=1.5, dash="2 3")
-    plot.line(CURVE_K, ink=UP, width=2.5)
-    plot.columns(CURVE_K, UP)
+    plot.pair(gentle)
     below(
         x, "Full: straight between columns. "
-        f"Dashed: past the last column the line {PAST_WORDS}. "
+        "Dashed: past the last column it goes on with the slope of the last two. "
         "Dotted: a negative wave gets minus the answer for its opposite. "
         "The line stays in the shaded region, |sent\u00a0back|\u00a0\u2264\u00a0|wave|, for every wave.")
 
@@ -307,6 +313,44 @@ def curve():
         x, "An old table ran on past its last column. Here curve K runs on by the parabola through its columns. "
         f"At {num(out)} it leaves the shaded region: the diode would send back more than it got. "
         f"As a column, ({num(out)}, {num(carried(out))}) is refused 10 at 3.")
+    p.save()
+
+
+# ---- ends.svg: the line outside its columns, and what it was before request 3
+
+def ends():
+    p = Picture(
+        "ends.svg", 1030, 452, "The line outside its columns, before and after",
+        [
+            "Three curves. Before, the line fell one for one past the last column, and went down one for one to the left of a single's first",
+            "column. Now it goes on with the slope of the two columns at that end. It stays where the wave sent back is no larger than the wave.",
+        ])
+    y = 76
+
+    def draw(x, title, kind, columns, words):
+        p.text(x - 48, 30, title, size=15, bold=True)
+        p.text(x - 48, 52, kind + " " + " ".join(f"({num(a)}, {num(b)})" for a, b in columns), ink=GREY)
+        plot = Plot(p, x, y)
+        far = plot.reach
+        for side in [1] if kind == "pair" else [1, -1]:
+            a, b = columns[-1 if side > 0 else 0]
+            plot.line([(a, b), (side * far, b - (far - abs(a)))], ink=DOWN, width=1.5)
+        if kind == "pair":
+            plot.pair(columns)
+        else:
+            plot.ends(columns, [1, -1])
+        for i, line in enumerate(textwrap.wrap(words, 47)):
+            p.text(x - 48, y + 312 + 18 * i, line, size=12)
+
+    draw(
+        70, "The last two columns level", "pair", [(0, 0), (1000, 1000), (2000, 1000)],
+        "Dashed, the line now: it stays at 1000. Thin, before: it fell from the last column on.")
+    draw(
+        412, "A gentle last slope", "pair", [(0, 0), (1000, 1000), (2000, 500)],
+        "A wave of 4000 is answered with \u2212500, where \u22121500 was the answer before.")
+    draw(
+        754, "A single, at both ends", "single", [(-2000, 1000), (0, 0), (1000, 500)],
+        "To the left the line goes on with the slope of the first two columns, \u22121/2, and to the right with that of the last two, 1/2.")
     p.save()
 
 
@@ -420,5 +464,6 @@ def bound():
 if __name__ == "__main__":
     tree()
     curve()
+    ends()
     flow()
     bound()

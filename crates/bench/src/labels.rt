@@ -66,6 +66,17 @@ columns (0,0) (1,1) (4,-1), the diode answers 0
 a single, left of its first column
 a single, between its columns
 a single, past its last column
+past the last column, the last slope 0
+past the last column, the last slope 0
+past the last column, the last slope 1/5
+past the last column, the last slope 1/5
+past the last column, the last slope -2/3
+past the last column, the last slope -2/3
+left of the first column, the first slope 0
+left of the first column, the first slope 1
+left of the first column, the first slope -1
+past a column at 67108863 microvolts, the last slope 1
+past a column at 67108863 microvolts, the last slope -1
 case 12
 case 12
 past the lower limit

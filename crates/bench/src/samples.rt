@@ -1,4 +1,4 @@
-// One sample from a fresh state: cases 2 to 7, 9 and 12, each tap, and both sides of each limit of a sample.
+// One sample from a fresh state: cases 2 to 7, 9 and 12, each tap, each piece of a curve, and both sides of each limit of a sample.
 use crate::labels;
 use crate::make;
 use crate::make::case_1;
@@ -29,6 +29,8 @@ pub fn cases(mut t: Tally) -> Tally {
     t = tapped(t, r, 1, 3000);
     t = tapped(t, r, 3, -1000);
     t = tapped(t, r, TOP, -2000);
+    t = pieces(t);
+    t = ends(t);
     limits(t)
 }
 
@@ -45,18 +47,46 @@ fn tapped(t: Tally, r: Record, tap: u8, output: i32) -> Tally {
     sample(t, make::with_tap(r, tap), 4000, 0, output)
 }
 
-// Of the curve's pieces, where the input is alone against the diode and an output is the wave plus the diode's answer; then of a sample, and
-// of a wave at the diode.
-fn limits(mut t: Tally) -> Tally {
+// The curve's pieces, where the input is alone against the diode and an output is the wave plus the diode's answer.
+fn pieces(mut t: Tally) -> Tally {
     let r = make::with_column(make::alone(), 3, 2);
     t = sample(t, r, 1, 0, 1);
     t = sample(t, r, 2, 0, 3);
     t = sample(t, r, -2, 0, -3);
     t = sample(t, make::with_columns(make::alone(), 1, 1, 4, -1), 2, 0, 2);
     let r = make::single(-1000, -500, 0, 0);
-    t = sample(t, r, -2000, 0, -3500);
+    t = sample(t, r, -2000, 0, -3000);
     t = sample(t, r, -500, 0, -750);
-    t = sample(t, r, 1000, 0, 0);
+    sample(t, r, 1000, 0, 1500)
+}
+
+// Outside the columns; the last two are read at 67108864 microvolts, with the longest line.
+fn ends(mut t: Tally) -> Tally {
+    let r = make::with_columns(make::alone(), 4, 4, 9, 4);
+    t = sample(t, r, 12, 0, 16);
+    t = sample(t, r, -12, 0, -16);
+    let r = make::with_columns(make::alone(), 4, 4, 9, 5);
+    t = sample(t, r, 20, 0, 27);
+    t = sample(t, r, -20, 0, -27);
+    let r = make::with_columns(make::alone(), 4, 4, 7, 2);
+    t = sample(t, r, 9, 0, 9);
+    t = sample(t, r, 12, 0, 11);
+    t = sample(t, make::single(-4, 0, 0, 0), -11, 0, -11);
+    t = sample(t, make::single(-4, -4, 0, 0), -11, 0, -22);
+    t = sample(t, make::single(-4, 4, 0, 0), -11, 0, 0);
+    let r = make::sources(0);
+    t = sample(
+        t,
+        make::with_column(r, 67108863, 67108863),
+        16777216,
+        0,
+        134217728,
+    );
+    sample(t, make::with_column(r, 67108863, -67108863), 16777216, 0, 0)
+}
+
+// Of a sample, and of a wave at the diode.
+fn limits(mut t: Tally) -> Tally {
     let r = case_1();
     t = sample(t, r, 16777217, 14, BEFORE);
     t = sample(t, r, 16777216, 0, 2000);

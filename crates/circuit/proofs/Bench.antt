@@ -83,16 +83,25 @@ marked-cases : map (λ (l : Line). l .found) marked ≡ map (λ (l : Line). l .p
 unfolding working marked prepared played plainly answered unroundedIs fresh
 marked-cases = ap₂ _∷_ refl refl
 
--- ---- shortcuts seen in the old units, each at a case where it would answer something else; R1 in the parallel quotient breaks case 1
+-- ---- shortcuts seen in the old units, and the ends of the line by document 01's first rule, each at a case where it would answer something else;
+-- R1 in the parallel quotient breaks case 1
 
 shortcuts : List Line
 shortcuts =
-    -- rounding the slope part before adding y would give 1
+    -- rounding the slope part before adding y would give 1, and 2 left of the first column
     case 0 (answered (curved Pair (column (pos 0) (pos 0) ∷ column (pos 1) (pos 1) ∷ column (pos 4) (minus 1) ∷ [])) (pos 2 ∷ [])) (answers (pos 0 ∷ []))
-    -- past the last column the line falls one for one; carried on with the last slope it would be level
-    ∷ case 0 (answered (curved Pair (column (pos 0) (pos 0) ∷ column (pos 4) (pos 4) ∷ column (pos 9) (pos 4) ∷ [])) (pos 12 ∷ minus 12 ∷ [])) (answers (pos 1 ∷ minus 1 ∷ []))
-    -- left of a single's first column it goes down one for one
-    ∷ case 0 (answered (curved Single (column (minus 4) (minus 2) ∷ column (pos 0) (pos 0) ∷ [])) (minus 11 ∷ [])) (answers (minus 9 ∷ []))
+    ∷ case 0 (answered (curved Pair (column (pos 0) (pos 0) ∷ column (pos 4) (pos 4) ∷ column (pos 7) (pos 2) ∷ [])) (pos 9 ∷ minus 9 ∷ [])) (answers (pos 0 ∷ pos 0 ∷ []))
+    ∷ case 0 (answered (curved Single (column (minus 9) (pos 2) ∷ column (minus 6) (pos 4) ∷ column (pos 0) (pos 0) ∷ [])) (minus 10 ∷ [])) (answers (pos 1 ∷ []))
+    -- past the last column, falling one for one whatever the last slope: the same with curve K, but 1, −6 and −3 where the last slope is 0, 1/5 and −2/3
+    ∷ case 0 (answered case1 (pos 4000 ∷ minus 4000 ∷ [])) (answers (minus 2000 ∷ pos 2000 ∷ []))
+    ∷ case 0 (answered (curved Pair (column (pos 0) (pos 0) ∷ column (pos 4) (pos 4) ∷ column (pos 9) (pos 4) ∷ [])) (pos 12 ∷ minus 12 ∷ [])) (answers (pos 4 ∷ minus 4 ∷ []))
+    ∷ case 0 (answered (curved Pair (column (pos 0) (pos 0) ∷ column (pos 4) (pos 4) ∷ column (pos 9) (pos 5) ∷ [])) (pos 20 ∷ minus 20 ∷ [])) (answers (pos 7 ∷ minus 7 ∷ []))
+    ∷ case 0 (answered (curved Pair (column (pos 0) (pos 0) ∷ column (pos 4) (pos 4) ∷ column (pos 7) (pos 2) ∷ [])) (pos 12 ∷ minus 12 ∷ [])) (answers (minus 1 ∷ pos 1 ∷ []))
+    -- left of a single's first column, going down one for one whatever the first slope: the same where it is 1, but −14, −3 and −9 where it is 0, −1 and 1/2
+    ∷ case 0 (answered (curved Single (column (minus 4) (minus 4) ∷ column (pos 0) (pos 0) ∷ [])) (minus 11 ∷ [])) (answers (minus 11 ∷ []))
+    ∷ case 0 (answered (curved Single (column (minus 9) (minus 3) ∷ column (minus 4) (minus 3) ∷ column (pos 0) (pos 0) ∷ [])) (minus 20 ∷ [])) (answers (minus 3 ∷ []))
+    ∷ case 0 (answered (curved Single (column (minus 4) (pos 4) ∷ column (pos 0) (pos 0) ∷ [])) (minus 11 ∷ [])) (answers (pos 11 ∷ []))
+    ∷ case 0 (answered (curved Single (column (minus 4) (minus 2) ∷ column (pos 0) (pos 0) ∷ [])) (minus 11 ∷ [])) (answers (minus 5 ∷ []))
     -- wave 0 gives 0
     ∷ case 0 (answered case1 (pos 0 ∷ [])) (answers (pos 0 ∷ []))
     -- a refused sample stores nothing: the wave, the count and the output are those of the sample before it, and the next output is untouched

@@ -1,15 +1,14 @@
 -- The lines of a curve: no step of one leaves 64 bits, each is the definition's piece, and the first edge above a wave counts the columns passed.
-use Prim.Native.Nat.{ℕ, zero, suc, _+_, _-_, _^_, _<_, _≤_, max}
+use Prim.Native.Nat.{ℕ, zero, suc, _+_, _-_, _*_, _^_, _<_, _≤_, min, max}
 use native.Mathlib.Nat.{eq-or-lt-of-le}
 use native.Mathlib.Omega.{arith}
 use mathlib.Core.Path.{_≡_, refl, sym, ap, _∙_}
 use mathlib.Core.Logic.{⊎-elim}
 use mathlib.Core.List.{List, [], _∷_}
 use borrow.Author.Count.{below-none}
-use borrow.Author.Tests.{lt-ltb, le-ltb}
 use lib.ListN.{length, getD, set, length-set}
 use lib.Seq.{getD-set-same, getD-set-other}
-use lib.IntN.{ℤ, pos, negsuc, _+ℤ_, _-ℤ_, _*ℤ_}
+use lib.IntN.{ℤ, pos, _+ℤ_, _-ℤ_, _*ℤ_}
 use lib.Signed.{_≤ℤ_, _<ℤ_, quotZ}
 use mir.Syntax.{w32, w64}
 use mir.Val.{Fits, SFits, toZ, ofZ}
@@ -18,31 +17,48 @@ use Rattle.whole.specs.Order.{zarith, Abs, abs-add, abs-neg, abs-mul, abs-as}
 use Rattle.whole.specs.Ring.{var, _⊕_, _⊗_, _⊝_, ring}
 use Rattle.whole.specs.Signed.{zfits, toZ-u32, trunc-fits}
 use Rattle.whole.specs.Fraction.{whole}
-use Rattle.circuit.specs.Record.{columnLimit}
-use Rattle.circuit.specs.Curve.{waveLimit, Slope, through, slopeAt, oneUp, oneDown, passed, piece, towardZero}
+use Rattle.circuit.specs.Record.{columnLimit, columnAt}
+use Rattle.circuit.specs.Curve.{waveLimit, through, slopeAt, passed, piece, towardZero}
 use Rattle.circuit.specs.declared.Column.{Column}
 use Rattle.circuit.specs.declared.Record.{Record}
 use Rattle.laws.specs.Accepted.{Drawn}
+use Rattle.laws.proofs.Line as Line
 use Rattle.laws.proofs.Line.{through-answer, run-is}
 use Rattle.laws.proofs.Drawn.{passed-is, column-y-small}
-use Rattle.engine.specs.Curve.{edgeOf, lineBy, lineOn, Sloped, lineLimit, beyond, columnIn, lineIn, lastLine, Laid, Drawing}
+use Rattle.engine.specs.Curve.{edgeOf, lineBy, Sloped, lineLimit, beyond, columnIn, slopeTo, slopeIn, lineIn, lastLine, Laid, Drawing}
+use Rattle.engine.specs.declared.curve.Slope.{Slope}
 use Rattle.engine.proofs.Fill.{filled-more}
 use Rattle.engine.proofs.Limits.{abs-fits, difference-range}
 
--- ---- one line in 64 bits
+-- ---- one line in 64 bits: what is divided keeps 3·2^53, whatever the wave
 
-module _ {c : Column} {rise run : ℤ} (s : Sloped c rise run) where
+module _ {c : Column} {slope : Slope} (s : Sloped c slope) where
+  abbrev rise : ℤ
+  rise = slope .rise
+
+  abbrev run : ℤ
+  run = slope .run
+
   abbrev base : ℤ
   base = c .y *ℤ run -ℤ rise *ℤ c .x
 
+  height-bound : Abs (c .y *ℤ run) (2 ^ 53)
+  height-bound = abs-mul (s .back) (s .run-small)
+
+  climb-bound : {a : ℤ} → Abs a waveLimit → Abs (rise *ℤ a) (2 ^ 53)
+  climb-bound h = abs-mul (s .rise-small) h
+
   base-bound : Abs base (2 ^ 54)
-  base-bound = abs-as (abs-add (abs-mul (s .back) (s .run-small)) (abs-neg (abs-mul (s .rise-small) (s .across)))) refl (omega arith)
+  base-bound = abs-add height-bound (abs-neg (climb-bound (s .across)))
+
+  line-bound : {a : ℤ} → Abs a waveLimit → Abs (rise *ℤ a +ℤ base) (3 * 2 ^ 53)
+  line-bound h = abs-add (climb-bound h) base-bound
 
   pub height : SFits w64 (c .y *ℤ run)
-  height = abs-fits (abs-mul (s .back) (s .run-small)) (omega arith)
+  height = abs-fits height-bound (omega arith)
 
   pub climb : {a : ℤ} → Abs a waveLimit → SFits w64 (rise *ℤ a)
-  climb h = abs-fits (abs-mul (s .rise-small) h) (omega arith)
+  climb h = abs-fits (climb-bound h) (omega arith)
 
   pub base-fits : SFits w64 base
   base-fits = abs-fits base-bound (omega arith)
@@ -51,7 +67,7 @@ module _ {c : Column} {rise run : ℤ} (s : Sloped c rise run) where
   span-fits = let h = s .run-small in omega (zfits, at run ⊟ at (pos 1))
 
   line-fits : {a : ℤ} → Abs a waveLimit → SFits w64 (rise *ℤ a +ℤ base)
-  line-fits h = abs-fits (abs-add (abs-mul (s .rise-small) h) base-bound) (omega arith)
+  line-fits h = abs-fits (line-bound h) (omega arith)
 
 -- the steps to a line's value v at a wave
 pub record Steps (l : List ℤ) (a v : ℤ) : Type 0 where
@@ -67,13 +83,16 @@ pub record Steps (l : List ℤ) (a v : ℤ) : Type 0 where
   pub quotient : SFits w64 (quotZ (getD l 1 (pos 0) *ℤ a +ℤ getD l 2 (pos 0)) (pos (span + 1)))
   pub value : quotZ (getD l 1 (pos 0) *ℤ a +ℤ getD l 2 (pos 0)) (pos (span + 1)) ≡ v
 
-steps : (edge : ℤ) (c : Column) (s : Slope) {a : ℤ} → Sloped c (s .rise) (pos (max 1 (s .run))) → Abs a waveLimit
-    → Steps (lineOn edge c s) a (towardZero (through c s (whole a)))
-steps edge c s {a} h w =
-    let k = max 1 (s .run) in
+-- through a column with the slope from one column to another
+steps : (c o n : Column) (edge : ℤ) {a : ℤ} → o .x <ℤ n .x → Sloped c (slopeTo o n) → Abs a waveLimit
+    → Steps (lineBy c (slopeTo o n) edge) a (towardZero (through c (Line.slopeTo o n) (whole a)))
+steps c o n edge {a} rises h w =
+    let slope = slopeTo o n in
+    let k = max 1 (Line.slopeTo o n .run) in
+    let distance = run-is o n rises in
     let same : k - 1 + 1 ≡ k = omega arith in
-    let last : pos k -ℤ pos 1 ≡ pos (k - 1) = omega (zarith, at (pos k) ⊟ at (pos 1)) in
-    let short : Fits w32 (k - 1) = record { fits = omega (arith, h .run-small .bound) } in
+    let last : slope .run -ℤ pos 1 ≡ pos (k - 1) = rw (← distance) (omega (zarith, at (pos k) ⊟ at (pos 1))) in
+    let short : Fits w32 (k - 1) = record { fits = omega (arith, (rw (← distance) at (h .run-small)) .bound) } in
     let x = var 0 in let y = var 1 in let C = var 2 in let K = var 3 in let A = var 4 in
     record {
       wave = abs-fits w (omega arith);
@@ -88,7 +107,9 @@ steps edge c s {a} h w =
       quotient = trunc-fits (k - 1 + 1) (line-fits h w);
       value = rw same
           (ap (λ (z : ℤ). quotZ z (pos k))
-          (ring (c .x ∷ c .y ∷ s .rise ∷ pos k ∷ a ∷ []) (C ⊗ A ⊕ (y ⊗ K ⊝ C ⊗ x)) (y ⊗ K ⊕ C ⊗ (A ⊝ x)) refl) ∙ sym (through-answer c s a));
+          (ring (c .x ∷ c .y ∷ slope .rise ∷ slope .run ∷ a ∷ []) (C ⊗ A ⊕ (y ⊗ K ⊝ C ⊗ x)) (y ⊗ K ⊕ C ⊗ (A ⊝ x)) refl
+          ∙ ap (λ (z : ℤ). c .y *ℤ z +ℤ slope .rise *ℤ (a -ℤ c .x)) (sym distance))
+          ∙ sym (through-answer c (Line.slopeTo o n) a));
     }
 
 -- ---- the columns that the lines go through
@@ -114,26 +135,16 @@ module _ {columns : List Column} {width : ℕ} (p : Plotted columns width) where
   abbrev column : ℕ → Column
   column = columnIn columns
 
-  -- one for one
-  pub level : (i : ℕ) → i < width → (rise : ℤ) → Abs rise 1 → Sloped (column i) rise (pos 1)
-  level i l rise h = record { across = p .across i l; back = p .back i l; rise-small = omega zarith; run-small = omega zarith }
-
-  -- to the next
-  pub spans : (i n : ℕ) → suc i ≡ n → n < width → Sloped (column i) (column n .y -ℤ column i .y) (column n .x -ℤ column i .x)
-  spans i n e l =
-      let here : i < width = omega arith in
-      record {
-        across = p .across i here;
-        back = p .back i here;
-        rise-small = difference-range (p .back n l) (p .back i here);
-        run-small = difference-range (p .across n l) (p .across i here);
+  -- through column i with the slope from column k to the next
+  pub sloped : {s : Slope} (i k : ℕ) → s ≡ slopeIn columns k → i < width → suc k < width → Sloped (column i) s
+  sloped i k e l m =
+      let here : k < width = omega arith in
+      rw e record {
+        across = p .across i l;
+        back = p .back i l;
+        rise-small = difference-range (p .back (suc k) m) (p .back k here);
+        run-small = difference-range (p .across (suc k) m) (p .across k here);
       }
-
-  pub inner-line : (i n : ℕ) → suc i ≡ n → n < width
-      → lineBy (column n .x) (column i) (column n .y -ℤ column i .y) (column n .x -ℤ column i .x) ≡ lineIn columns n
-  inner-line i n e l =
-      let z = column (suc i) in
-      rw (← e) (ap (lineBy (z .x) (column i) (z .y -ℤ column i .y)) (sym (run-is (column i) z (p .rises i (rw e l)))))
 
 -- ---- lines laid one by one
 
@@ -178,13 +189,17 @@ module _ {r : Record} {width : ℕ} {lines : List (List ℤ)} (d : Drawing r wid
   abbrev Piece : ℕ → Type 0
   Piece n = Steps (getD lines n []) a (towardZero (piece r n (whole a)))
 
+  -- through column i with the slope from column k to the next
+  along : (i k : ℕ) (edge : ℤ) → i < r .width → suc k < r .width
+      → Steps (lineBy (columnIn columns i) (slopeIn columns k) edge) a (towardZero (through (columnAt r i) (slopeAt r k) (whole a)))
+  along i k edge l m = let p = columns-plotted in steps (columnAt r i) (columnAt r k) (columnAt r (suc k)) edge (p .rises k m) (sloped p i k refl l m) w
+
   inside : (n : ℕ) → n < r .width → Piece n
   unfolding piece
-  inside zero l = rw (d .laid .line 0 l) (steps _ (columnIn columns 0) oneUp (level columns-plotted 0 l (pos 1) (omega zarith)) w)
+  inside zero l = rw (d .laid .line 0 l) (along 0 0 _ l (d .drawn .two))
   inside (suc n) l =
-      let p = columns-plotted in
-      let sloped = rw (← run-is (columnIn columns n) (columnIn columns (suc n)) (p .rises n l)) at (spans p n (suc n) refl l) in
-      rw (d .laid .line (suc n) l, lt-ltb (suc n) (r .width) l) (steps _ (columnIn columns n) (slopeAt r n) sloped w)
+      let inner : min n (r .width - 2) ≡ n = omega arith in
+      rw (d .laid .line (suc n) l, inner) (along n n _ (omega arith) l)
 
   past : (n : ℕ) → n ≡ r .width → Piece n
   unfolding piece
@@ -192,8 +207,8 @@ module _ {r : Record} {width : ℕ} {lines : List (List ℤ)} (d : Drawing r wid
   past (suc n) e =
       let line = ap (λ (k : ℕ). getD lines k []) e ∙ d .laid .last in
       let last : r .width - 1 ≡ n = omega arith in
-      rw (line, le-ltb (suc n) (r .width) (omega arith), last)
-      (steps beyond (columnIn columns n) oneDown (level columns-plotted n (omega arith) (negsuc 0) (omega zarith)) w)
+      let outer : min n (r .width - 2) ≡ r .width - 2 = omega arith in
+      rw (line, last, outer) (along n (r .width - 2) beyond (omega arith) (omega (arith, d .drawn .two)))
 
   pub piece-steps : (n : ℕ) → n ≤ r .width → Piece n
   piece-steps n l = ⊎-elim (past n) (inside n) (eq-or-lt-of-le l)

@@ -1,13 +1,13 @@
 // The diode's answer to a wave. The curve is laid out once for a run as lines: line n holds left of its edge, and at a wave it is
 // (rise·wave + base) / (span + 1), rounded toward zero. Line 0 is left of the first column, and the edge after the last column is past every
-// wave. All numbers are whole microvolts; a column's and a wave's keep 2^26, so no product reaches 2^55.
+// wave. All numbers are whole microvolts. A column's x and y and a wave keep 2^26, and so a slope's rise and run 2^27: a product keeps 2^53, a base
+// 2^54, and what is divided 3·2^53, outside the columns as between them.
 use circuit::COLUMNS;
 use circuit::Column;
 use circuit::Wave;
 use sheet::Coordinates;
 ghost use mathlib.Core.Path.{_≡_};
-ghost use Prim.Native.Nat.{_≤_, _<_};
-ghost use lib.IntN.{_-ℤ_};
+ghost use Prim.Native.Nat.{suc, _≤_, _<_};
 ghost use lib.ListN.{length};
 ghost use Rattle.whole.specs.Order.{Abs};
 ghost use Rattle.whole.specs.Fraction.{whole};
@@ -18,7 +18,7 @@ ghost use Rattle.circuit.specs.declared.Record.{Record};
 ghost use Rattle.laws.specs.Accepted.{Drawn};
 ghost use Rattle.sheet.specs.Sheet.{columnsIn};
 ghost use Rattle.parts.specs.Parts.{mirrorOf};
-ghost use Rattle.engine.specs.Curve.{lineBy, Sloped, lineLimit, columnIn, Drawing};
+ghost use Rattle.engine.specs.Curve.{lineBy, Sloped, lineLimit, columnIn, slopeIn, Drawing};
 
 // One line more than there are columns, and one more to make them a power of two.
 pub(crate) const LINES: usize = COLUMNS + 2;
@@ -29,25 +29,10 @@ pub(crate) type Line = [i64; 4];
 // Past every wave.
 const BEYOND: i64 = 4611686018427387904;
 
-// The line through a column that rises by `rise` over `run`, up to an edge.
-fn through(edge: i64, c: Column, rise: i64, run: i64) -> Line
-    requires { ⌜ Sloped c rise run ⌝ }
-    ensures { λ l. ⌜ l ≡ lineBy edge c rise run ⌝ }
-{
-    let x = c.x as i64;
-    let y = c.y as i64;
-    let base = y * run - rise * x;
-    let span = run - 1;
-    [edge, rise, base, span]
-}
-
-// The line from one column to the next.
-fn between(o: Column, n: Column) -> Line
-    requires { ⌜ Sloped o (n .y -ℤ o .y) (n .x -ℤ o .x) ⌝ }
-    ensures { λ l. ⌜ l ≡ lineBy (n .x) o (n .y -ℤ o .y) (n .x -ℤ o .x) ⌝ }
-{
-    let x = n.x as i64;
-    through(x, o, (n.y as i64) - (o.y as i64), x - (o.x as i64))
+// How far a line rises over a run.
+struct Slope {
+    rise: i64,
+    run: i64,
 }
 
 fn column(xs: &Coordinates, ys: &Coordinates, i: usize) -> Column
@@ -57,6 +42,34 @@ fn column(xs: &Coordinates, ys: &Coordinates, i: usize) -> Column
     Column { x: xs[i], y: ys[i] }
 }
 
+// From column i to the next.
+fn slope_at(xs: &Coordinates, ys: &Coordinates, i: usize) -> Slope
+    requires { ⌜ suc i < columnLimit ⌝ }
+    ensures { λ s. ⌜ s ≡ slopeIn (columnsIn (now (xs .entry)) (now (ys .entry))) i ⌝ }
+{
+    let o = column(xs, ys, i);
+    let n = column(xs, ys, i + 1);
+    Slope {
+        rise: (n.y as i64) - (o.y as i64),
+        run: (n.x as i64) - (o.x as i64),
+    }
+}
+
+// The line through column i with a slope, up to an edge.
+fn through(xs: &Coordinates, ys: &Coordinates, i: usize, s: Slope, edge: i64) -> Line
+    requires { ⌜ (i < columnLimit) × Sloped (columnIn (columnsIn (now xs) (now ys)) i) s ⌝ }
+    ensures { λ l. ⌜ l ≡ lineBy (columnIn (columnsIn (now (xs .entry)) (now (ys .entry))) i) s edge ⌝ }
+{
+    let c = column(xs, ys, i);
+    let x = c.x as i64;
+    let y = c.y as i64;
+    let rise = s.rise;
+    let run = s.run;
+    let base = y * run - rise * x;
+    let span = run - 1;
+    [edge, rise, base, span]
+}
+
 // No search goes past the line after the last column: what stands behind it is never read.
 pub(crate) fn lay_lines(width: usize, xs: &Coordinates, ys: &Coordinates, lines: &mut [Line; LINES])
     requires { ⌜ ((r : Record) × (r .columns ≡ columnsIn (now xs) (now ys)) × (r .width ≡ width) × Drawn r × (width ≤ columnLimit))
@@ -64,16 +77,15 @@ pub(crate) fn lay_lines(width: usize, xs: &Coordinates, ys: &Coordinates, lines:
     ensures { λ u. ⌜ ((r : Record) → r .columns ≡ columnsIn (now (xs .entry)) (now (ys .entry)) → r .width ≡ width → Drawn r → width ≤ columnLimit
         → Drawing r width (now (lines .exit))) ⌝ }
 {
-    let last = column(xs, ys, width - 1);
-    let l = through(BEYOND, last, -1, 1);
+    let last = slope_at(xs, ys, width - 2);
+    let l = through(xs, ys, width - 1, last, BEYOND);
     lines[width] = l;
-    let first = column(xs, ys, 0);
-    let l = through(first.x as i64, first, 1, 1);
+    let first = slope_at(xs, ys, 0);
+    let l = through(xs, ys, 0, first, xs[0] as i64);
     lines[0] = l;
     for i in 1..width {
-        let before = column(xs, ys, i - 1);
-        let here = column(xs, ys, i);
-        let l = between(before, here);
+        let s = slope_at(xs, ys, i - 1);
+        let l = through(xs, ys, i - 1, s, xs[i] as i64);
         lines[i] = l;
     }
 }

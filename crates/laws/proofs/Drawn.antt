@@ -1,7 +1,7 @@
 -- What a drawn curve gives, single and pair alike: its line passes through every column and so through (0, 0), moves no further than its
 -- input and never exceeds it in magnitude. So does the diode's answer, the line rounded toward zero, and it is within one of the line.
 -- The line over the first n columns is glued to the next piece at column n.
-use Prim.Native.Nat.{ℕ, zero, suc, _*_, _<_, _≤_, max}
+use Prim.Native.Nat.{ℕ, zero, suc, _-_, _*_, _<_, _≤_, min, max}
 use native.Mathlib.Omega.{arith}
 use native.Mathlib.Nat.{le-of-suc-le-suc, le-of-mul-le-mul-right, not-suc-le-zero, eq-or-lt-of-le}
 use mathlib.Core.Path.{_≡_, refl, sym, ap, _∙_, subst}
@@ -9,8 +9,6 @@ use mathlib.Core.Logic.{⊎-elim}
 use mathlib.Core.Bool.{Bool, true, false, cond}
 use mathlib.Core.List.{[], _∷_}
 use lib.IntN.{ℤ, pos, _-ℤ_, natAbs}
-use lib.Dec.{ltb}
-use borrow.Author.Tests.{ltb-true, lt-ltb}
 use lib.Signed.{_≤ℤ_, _<ℤ_, quotZ, ≤ℤ-refl}
 use Rattle.whole.specs.Order.{zarith, Abs}
 use Rattle.whole.specs.Ring.{var, _⊝_}
@@ -22,14 +20,14 @@ use Rattle.whole.specs.Fractions.{≈-refl}
 use Rattle.whole.specs.Nearness.{NoFurther, no-further-as, Near, near-rounds}
 use Rattle.circuit.specs.Counting.{total}
 use Rattle.circuit.specs.Record.{columnAt}
-use Rattle.circuit.specs.Curve.{waveLimit, through, slopeAt, oneUp, oneDown, passed, piece, drawn, lineOf, line, towardZero, reflected}
+use Rattle.circuit.specs.Curve.{waveLimit, through, slopeAt, passed, piece, drawn, lineOf, line, towardZero, reflected}
 use Rattle.circuit.specs.declared.Column.{Column}
 use Rattle.circuit.specs.declared.CurveKind.{CurveKind}
 use Rattle.circuit.specs.declared.CurveKind.the-variants.{Unset, Single, Pair}
 use Rattle.circuit.specs.declared.Record.{Record}
 use Rattle.laws.specs.Accepted.{Beside, Crosses, Drawn}
 use Rattle.laws.proofs.ColumnRule.{ahead}
-use Rattle.laws.proofs.Line.{run-is, below-whole, not-below-whole, passedOf, passed-stop, passed-all}
+use Rattle.laws.proofs.Line.{slopeTo, run-is, below-whole, not-below-whole, passedOf, passed-stop, passed-all}
 use Rattle.laws.proofs.Truncated.{toward-zero-moves}
 use Rattle.laws.proofs.Gentle.{Gentle, gentle-as, gentle-moves, never-exceeds, glue, through-gentle, through-at, paired-gentle}
 
@@ -47,11 +45,11 @@ unfolding reflected towardZero
 answer-near r a = let q = line r (whole a) in near-rounds (q .den-pos) (trunc-rounds (q .num) (q .den) (q .den-pos))
 
 -- a line through a column with the slope to the next passes through the next
-meets-next : (o n : Column) → Beside o n → through o (record { rise = n .y -ℤ o .y; run = natAbs (n .x -ℤ o .x) }) (whole (n .x)) ≈ whole (n .y)
+meets-next : (o n : Column) → Beside o n → through o (slopeTo o n) (whole (n .x)) ≈ whole (n .y)
 meets-next o n b =
     let X = var 0 in let Y = var 1 in let U = var 2 in let Z = var 3 in let K = var 4 in
     record {
-      same = by-facts (o .x ∷ o .y ∷ n .x ∷ n .y ∷ pos (max 1 (natAbs (n .x -ℤ o .x))) ∷ []) (multiple (Y ⊝ Z) K (U ⊝ X) ∷ [])
+      same = by-facts (o .x ∷ o .y ∷ n .x ∷ n .y ∷ pos (max 1 (slopeTo o n .run)) ∷ []) (multiple (Y ⊝ Z) K (U ⊝ X) ∷ [])
           (wholeE Y ⊕F timesE (Z ⊝ Y) K (wholeE U ⊝F wholeE X)) (wholeE Z) (run-is o n (b .rises), tt) refl;
     }
 
@@ -66,22 +64,22 @@ module _ {r : Record} (d : Drawn r) where
 
   piece-gentle : (n : ℕ) → Gentle (piece r n)
   unfolding piece
-  piece-gentle zero = through-gentle (column 0) oneUp (record { bound = omega arith })
-  piece-gentle (suc n) = by (ltb (suc n) (r .width)) refl
-    where
-      by : (b : Bool) → ltb (suc n) (r .width) ≡ b → Gentle (through (column n) (cond b (slopeAt r n) oneDown))
-      by true e = through-gentle (column n) (slopeAt r n) (slope-gentle n (ltb-true (suc n) (r .width) e))
-      by false e = through-gentle (column n) oneDown (record { bound = omega arith })
+  piece-gentle zero = through-gentle (column 0) (slopeAt r 0) (slope-gentle 0 (d .two))
+  piece-gentle (suc n) =
+      let k = min n (r .width - 2) in
+      through-gentle (column n) (slopeAt r k) (slope-gentle k (omega (arith, d .two)))
 
   -- piece n ends at column n, where the next begins
   ends : (n : ℕ) → n < r .width → piece r n (whole (column n .x)) ≈ whole (column n .y)
   unfolding piece
-  ends zero l = through-at (column 0) oneUp
-  ends (suc n) l = rw (lt-ltb (suc n) (r .width) l) (meets-next (column n) (column (suc n)) (d .beside n l))
+  ends zero l = through-at (column 0) (slopeAt r 0)
+  ends (suc n) l =
+      let inner : min n (r .width - 2) ≡ n = omega arith in
+      rw inner (meets-next (column n) (column (suc n)) (d .beside n l))
 
   begins : (n : ℕ) → piece r (suc n) (whole (column n .x)) ≈ whole (column n .y)
   unfolding piece
-  begins n = through-at (column n) (cond (ltb (suc n) (r .width)) (slopeAt r n) oneDown)
+  begins n = through-at (column n) (slopeAt r (min n (r .width - 2)))
 
   -- ---- the line over the first n columns
 
