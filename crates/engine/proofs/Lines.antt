@@ -13,19 +13,21 @@ use lib.Signed.{_≤ℤ_, _<ℤ_, quotZ}
 use mir.Syntax.{w32, w64}
 use mir.Val.{Fits, SFits, toZ, ofZ}
 use Rattle.whole.specs.Integers.{at, _⊟_}
-use Rattle.whole.specs.Order.{zarith, Abs, abs-add, abs-neg, abs-mul, abs-as}
+use Rattle.whole.specs.Order.{zarith, Abs, abs-add, abs-neg, abs-mul}
 use Rattle.whole.specs.Ring.{var, _⊕_, _⊗_, _⊝_, ring}
-use Rattle.whole.specs.Signed.{zfits, toZ-u32, trunc-fits}
+use Rattle.whole.specs.Signed.{zfits, toZ-u32, trunc-fits, wide, wide-same}
 use Rattle.whole.specs.Fraction.{whole}
 use Rattle.circuit.specs.Record.{columnLimit, columnAt}
 use Rattle.circuit.specs.Curve.{waveLimit, through, slopeAt, passed, piece, towardZero}
 use Rattle.circuit.specs.declared.Column.{Column}
 use Rattle.circuit.specs.declared.Record.{Record}
-use Rattle.laws.specs.Accepted.{Drawn}
+use Rattle.laws.specs.Accepted.{origin, Drawn}
+use Rattle.laws.proofs.Counting.{getD-table}
 use Rattle.laws.proofs.Line as Line
 use Rattle.laws.proofs.Line.{through-answer, run-is}
 use Rattle.laws.proofs.Drawn.{passed-is, column-y-small}
-use Rattle.engine.specs.Curve.{edgeOf, lineBy, Sloped, lineLimit, beyond, columnIn, slopeTo, slopeIn, lineIn, lastLine, Laid, Drawing}
+use Rattle.sheet.specs.Sheet.{columnsIn}
+use Rattle.engine.specs.Curve.{edgeOf, lineBy, Sloped, lineLimit, beyond, columnIn, slopeTo, slopeIn, lineIn, lastLine, Plotted, Laid, Drawing}
 use Rattle.engine.specs.declared.curve.Slope.{Slope}
 use Rattle.engine.proofs.Fill.{filled-more}
 use Rattle.engine.proofs.Limits.{abs-fits, difference-range}
@@ -114,13 +116,6 @@ steps c o n edge {a} rises h w =
 
 -- ---- the columns that the lines go through
 
-pub record Plotted (columns : List Column) (width : ℕ) : Type 0 where
-  pub two : 2 ≤ width
-  pub narrow : width ≤ columnLimit
-  pub across : (i : ℕ) → i < width → Abs (columnIn columns i .x) waveLimit
-  pub back : (i : ℕ) → i < width → Abs (columnIn columns i .y) waveLimit
-  pub rises : (i : ℕ) → suc i < width → columnIn columns i .x <ℤ columnIn columns (suc i) .x
-
 pub plotted : {r : Record} {columns : List Column} {width : ℕ}
     → r .columns ≡ columns → r .width ≡ width → Drawn r → width ≤ columnLimit → Plotted columns width
 plotted e f d narrow = record {
@@ -145,6 +140,11 @@ module _ {columns : List Column} {width : ℕ} (p : Plotted columns width) where
         rise-small = difference-range (p .back (suc k) m) (p .back k here);
         run-small = difference-range (p .across (suc k) m) (p .across k here);
       }
+
+-- an edge is read where its column stands
+pub edge-reads : (xs ys : List ℤ) (i : ℕ) → i < columnLimit → SFits w32 (getD xs i (pos 0)) → wide (getD xs i (pos 0)) ≡ columnIn (columnsIn xs ys) i .x
+unfolding columnsIn
+edge-reads xs ys i l h = wide-same h ∙ sym (ap (λ (c : Column). c .x) (getD-table _ columnLimit i origin l))
 
 -- ---- lines laid one by one
 

@@ -7,7 +7,7 @@ use circuit::Column;
 use circuit::Wave;
 use sheet::Coordinates;
 ghost use mathlib.Core.Path.{_≡_};
-ghost use Prim.Native.Nat.{suc, _≤_, _<_};
+ghost use Prim.Native.Nat.{ℕ, suc, _≤_, _<_};
 ghost use lib.ListN.{length};
 ghost use Rattle.whole.specs.Order.{Abs};
 ghost use Rattle.whole.specs.Fraction.{whole};
@@ -18,7 +18,7 @@ ghost use Rattle.circuit.specs.declared.Record.{Record};
 ghost use Rattle.laws.specs.Accepted.{Drawn};
 ghost use Rattle.sheet.specs.Sheet.{columnsIn};
 ghost use Rattle.parts.specs.Parts.{mirrorOf};
-ghost use Rattle.engine.specs.Curve.{lineBy, Sloped, lineLimit, columnIn, slopeIn, Drawing};
+ghost use Rattle.engine.specs.Curve.{lineBy, Sloped, lineLimit, columnIn, slopeIn, lineIn, lastLine, Plotted, Drawing};
 
 // One line more than there are columns, and one more to make them a power of two.
 pub(crate) const LINES: usize = COLUMNS + 2;
@@ -70,6 +70,33 @@ fn through(xs: &Coordinates, ys: &Coordinates, i: usize, s: Slope, edge: i64) ->
     [edge, rise, base, span]
 }
 
+// Left of the first column: with the slope of the first two.
+fn first_line(xs: &Coordinates, ys: &Coordinates) -> Line
+    requires { ⌜ ((width : ℕ) × Plotted (columnsIn (now xs) (now ys)) width) ⌝ }
+    ensures { λ l. ⌜ l ≡ lineIn (columnsIn (now (xs .entry)) (now (ys .entry))) 0 ⌝ }
+{
+    let s = slope_at(xs, ys, 0);
+    through(xs, ys, 0, s, xs[0] as i64)
+}
+
+// Past the last column: with the slope of the last two.
+fn last_line(xs: &Coordinates, ys: &Coordinates, width: usize) -> Line
+    requires { ⌜ Plotted (columnsIn (now xs) (now ys)) width ⌝ }
+    ensures { λ l. ⌜ l ≡ lastLine (columnsIn (now (xs .entry)) (now (ys .entry))) width ⌝ }
+{
+    let s = slope_at(xs, ys, width - 2);
+    through(xs, ys, width - 1, s, BEYOND)
+}
+
+// Up to column i from the one before.
+fn line_to(xs: &Coordinates, ys: &Coordinates, i: usize) -> Line
+    requires { ⌜ (0 < i) × ((width : ℕ) × Plotted (columnsIn (now xs) (now ys)) width × (i < width)) ⌝ }
+    ensures { λ l. ⌜ l ≡ lineIn (columnsIn (now (xs .entry)) (now (ys .entry))) i ⌝ }
+{
+    let s = slope_at(xs, ys, i - 1);
+    through(xs, ys, i - 1, s, xs[i] as i64)
+}
+
 // No search goes past the line after the last column: what stands behind it is never read.
 pub(crate) fn lay_lines(width: usize, xs: &Coordinates, ys: &Coordinates, lines: &mut [Line; LINES])
     requires { ⌜ ((r : Record) × (r .columns ≡ columnsIn (now xs) (now ys)) × (r .width ≡ width) × Drawn r × (width ≤ columnLimit))
@@ -77,15 +104,12 @@ pub(crate) fn lay_lines(width: usize, xs: &Coordinates, ys: &Coordinates, lines:
     ensures { λ u. ⌜ ((r : Record) → r .columns ≡ columnsIn (now (xs .entry)) (now (ys .entry)) → r .width ≡ width → Drawn r → width ≤ columnLimit
         → Drawing r width (now (lines .exit))) ⌝ }
 {
-    let last = slope_at(xs, ys, width - 2);
-    let l = through(xs, ys, width - 1, last, BEYOND);
+    let l = last_line(xs, ys, width);
     lines[width] = l;
-    let first = slope_at(xs, ys, 0);
-    let l = through(xs, ys, 0, first, xs[0] as i64);
+    let l = first_line(xs, ys);
     lines[0] = l;
     for i in 1..width {
-        let s = slope_at(xs, ys, i - 1);
-        let l = through(xs, ys, i - 1, s, xs[i] as i64);
+        let l = line_to(xs, ys, i);
         lines[i] = l;
     }
 }

@@ -9,7 +9,6 @@ use mir.Val.{toZ, ofZ}
 use Rattle.whole.specs.Signed.{wide, widened, apart-fits, apart-same}
 use Rattle.circuit.specs.declared.Column.{Column}
 use Rattle.engine.specs.Curve.{slopeTo}
-use Rattle.engine.specs.declared.curve.Slope.{Slope}
 use Rattle.engine.proofs.curve.slope_at.Statement.{statement}
 use Rattle.engine.proofs.curve.slope_at.Tie as tie
 
