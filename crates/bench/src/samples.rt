@@ -30,7 +30,9 @@ pub fn cases(mut t: Tally) -> Tally {
     t = tapped(t, r, 3, -1000);
     t = tapped(t, r, TOP, -2000);
     t = pieces(t);
-    t = ends(t);
+    t = past_last(t);
+    t = left_of_first(t);
+    t = longest(t);
     limits(t)
 }
 
@@ -60,8 +62,8 @@ fn pieces(mut t: Tally) -> Tally {
     sample(t, r, 1000, 0, 1500)
 }
 
-// Outside the columns; the last two are read at 67108864 microvolts, with the longest line.
-fn ends(mut t: Tally) -> Tally {
+// Past the last column of a pair, on both sides.
+fn past_last(mut t: Tally) -> Tally {
     let r = make::with_columns(make::alone(), 4, 4, 9, 4);
     t = sample(t, r, 12, 0, 16);
     t = sample(t, r, -12, 0, -16);
@@ -70,10 +72,18 @@ fn ends(mut t: Tally) -> Tally {
     t = sample(t, r, -20, 0, -27);
     let r = make::with_columns(make::alone(), 4, 4, 7, 2);
     t = sample(t, r, 9, 0, 9);
-    t = sample(t, r, 12, 0, 11);
+    sample(t, r, 12, 0, 11)
+}
+
+// Left of the first column of a single.
+fn left_of_first(mut t: Tally) -> Tally {
     t = sample(t, make::single(-4, 0, 0, 0), -11, 0, -11);
     t = sample(t, make::single(-4, -4, 0, 0), -11, 0, -22);
-    t = sample(t, make::single(-4, 4, 0, 0), -11, 0, 0);
+    sample(t, make::single(-4, 4, 0, 0), -11, 0, 0)
+}
+
+// 67108864 microvolts at the diode, one past the last column.
+fn longest(mut t: Tally) -> Tally {
     let r = make::sources(0);
     t = sample(
         t,
