@@ -362,6 +362,7 @@ def flow():
         [
             "A circuit file is read into a record, set-up makes prepared rows of it, a run lays out a plan and works samples by it.",
             "read can refuse with 1 to 11, write with 1 and 4 to 11, set_up with 4 to 11, run with 4 to 15.",
+            "build makes a curve of a knee and a thermal voltage, and can refuse with 18; put puts it into a record.",
             "feed makes raw outputs of the bytes of a take, call by call, and can refuse with 4 to 12, 15 and 16; finish ends the take, and can",
             "refuse with 4 to 12, 15 and 17.",
             "list makes the text of a listing from the bytes; where reading refuses, the text says the number, 1 to 11.",
@@ -394,6 +395,11 @@ def flow():
     a, b, x = between(1)
     p.arrow([(a, mid), (b, mid)], UP)
     label(x, mid - 24, "set_up", "4 to 11")
+    a, b = centre[1] + 30, centre[2] + 40
+    p.arrow([(b, 88), (a, 88), (a, y - 4)], UP)
+    p.text((a + b) / 2 + 20, 80, "build, put", "end", bold=True)
+    p.text((a + b) / 2 + 28, 80, "18", size=12, ink=DOWN)
+    p.text(b + 8, 92, "a knee and a thermal voltage", size=12, ink=GREY)
     for i in (2, 3):
         a, b, x = between(i)
         p.arrow([(a, mid), (b, mid)], GREY)

@@ -150,6 +150,32 @@ the end after 6 samples
 the end after 6 samples and a byte
 the end after a refused sample
 the end with three bytes left over
+column 15 of a knee of 1 and a thermal voltage of 32
+its column 61
+column 0 of a knee of 600000 and a thermal voltage of 25856
+its column 30
+column 61 of a knee of 67108684 and a thermal voltage of 32
+column 61 of a knee of 4 and a thermal voltage of 11930464
+column 30 of a knee of 1 and a thermal voltage of 33
+a knee of 1 and a thermal voltage of 32
+a knee of 0
+a knee of -2147483648
+a thermal voltage of 0
+a thermal voltage of -32
+a thermal voltage of -2147483648
+a thermal voltage of 31
+a thermal voltage of 33
+a thermal voltage of 32, the last x at 67108864 microvolts
+a thermal voltage of 32, the last x at 67108865 microvolts
+a thermal voltage of 11930464, the last x at 67108864 microvolts
+a thermal voltage of 11930464, the last x at 67108865 microvolts
+the largest knee and the largest multiple of 32
+no file, a knee of 0, to a buffer of 1535 bytes
+no file, a knee of 0
+case 1 with a knee of 0
+case 1 with a knee of 0: the buffer is as it was
+case 1 with a knee of 600000 and a thermal voltage of 25856
+the same, read again
 ",
         t.cases,
     );

@@ -2,6 +2,7 @@
 // call. A line says what a case hands back; the last line, how many cases agree with what they should be.
 mod feeds;
 mod files;
+mod knees;
 mod labels;
 mod make;
 mod runs;
@@ -20,5 +21,6 @@ fn main() {
     t = runs::cases(t);
     t = files::cases(t);
     t = feeds::cases(t);
+    t = knees::cases(t);
     tally::shown(t);
 }

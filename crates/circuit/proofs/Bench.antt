@@ -15,6 +15,7 @@ use Rattle.circuit.specs.Curve.{line, reflected}
 use Rattle.circuit.specs.Sample.{unrounded, output}
 use Rattle.circuit.specs.Run.{Ran}
 use Rattle.circuit.specs.File.{blockLength, bytes, checkOf, zeros}
+use Rattle.circuit.specs.Knee.{knob, withKnee}
 use Rattle.circuit.specs.declared.Join.the-variants.{Series, Parallel}
 use Rattle.circuit.specs.declared.CurveKind.the-variants.{Single, Pair}
 use Rattle.circuit.specs.declared.Record.{Record}
@@ -102,8 +103,9 @@ shortcuts =
     ∷ case 0 (answered (curved Single (column (minus 9) (minus 3) ∷ column (minus 4) (minus 3) ∷ column (pos 0) (pos 0) ∷ [])) (minus 20 ∷ [])) (answers (minus 3 ∷ []))
     ∷ case 0 (answered (curved Single (column (minus 4) (pos 4) ∷ column (pos 0) (pos 0) ∷ [])) (minus 11 ∷ [])) (answers (pos 11 ∷ []))
     ∷ case 0 (answered (curved Single (column (minus 4) (minus 2) ∷ column (pos 0) (pos 0) ∷ [])) (minus 11 ∷ [])) (answers (minus 5 ∷ []))
-    -- wave 0 gives 0
+    -- wave 0 gives 0, with a built curve too: the cubic, carried on to wave 0, would give 66 there
     ∷ case 0 (answered case1 (pos 0 ∷ [])) (answers (pos 0 ∷ []))
+    ∷ case 0 (answered (withKnee case1 (knob (pos 25856) (pos 25856))) (pos 0 ∷ pos 25856 ∷ [])) (answers (pos 0 ∷ pos 25856 ∷ []))
     -- a refused sample stores nothing: the wave, the count and the output are those of the sample before it, and the next output is untouched
     ∷ case 0 (played (fresh case8 (pos 4000 ∷ pos 16777217 ∷ []))) (plays (report 14 1) 1 (pos 2000 ∷ pos 7 ∷ []) (minus 2000))
     ∷ []

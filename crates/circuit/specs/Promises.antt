@@ -12,6 +12,7 @@ use Rattle.circuit.specs.File.{readReport, readRecord, WriteCall, writeR
 use Rattle.circuit.specs.Listing.{listing}
 use Rattle.circuit.specs.Words.{meaning}
 use Rattle.circuit.specs.Take.{UnderWay, Feeding, fed, ended}
+use Rattle.circuit.specs.Knee.{Knob, buildReport, builtKind, builtWidth, builtColumns, Turning, turnReport, bufferTurned}
 use Rattle.circuit.specs.declared.Answer.{Answer}
 use Rattle.circuit.specs.declared.Record.{Record}
 use Rattle.circuit.specs.declared.Prepared.{Prepared}
@@ -22,6 +23,7 @@ use Rattle.circuit.specs.declared.Opened.{Opened}
 use Rattle.circuit.specs.declared.Listed.{Listed}
 use Rattle.circuit.specs.declared.Progress.{Progress}
 use Rattle.circuit.specs.declared.Feed.{Feed}
+use Rattle.circuit.specs.declared.Built.{Built}
 
 -- set-up of a record
 pub record SetsUp (r : Record) (s : SetUp) : Type 0 where
@@ -92,3 +94,15 @@ pub record Feeds (f : Feeding) (s : Feed) (after : List ℕ) : Type 0 where
 -- the ending of a take
 pub record Ends (t : UnderWay) (a : Answer) : Type 0 where
   pub number : handed a ≡ ended t
+
+-- a curve built from a knob
+pub record Builds (k : Knob) (b : Built) : Type 0 where
+  pub number : handed (b .answer) ≡ buildReport k
+  pub kind : b .kind ≡ builtKind k
+  pub width : b .width ≡ builtWidth k
+  pub columns : b .columns ≡ builtColumns k
+
+-- a circuit file with its curve built anew, with what the buffer holds afterwards
+pub record Turns (t : Turning) (a : Answer) (after : List ℕ) : Type 0 where
+  pub number : handed a ≡ turnReport t
+  pub buffer : after ≡ bufferTurned t

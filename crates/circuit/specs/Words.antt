@@ -3,7 +3,7 @@ use Prim.Native.Nat.{ℕ}
 use mathlib.Core.List.{List}
 use Rattle.circuit.specs.Text.{text}
 use Rattle.circuit.specs.declared.Answer.{Answer}
-use Rattle.circuit.specs.declared.Answer.the-variants.{Done, Length, Check, Version, Form, Rate, Tree, Value, Resistance, Ratio, Curve, Fit, Waves, Lengths, Sample, Overload, Room, LeftOver}
+use Rattle.circuit.specs.declared.Answer.the-variants.{Done, Length, Check, Version, Form, Rate, Tree, Value, Resistance, Ratio, Curve, Fit, Waves, Lengths, Sample, Overload, Room, LeftOver, Voltage}
 
 unfoldable pub meaning : Answer → List ℕ
 meaning Done = text "done\n"
@@ -24,3 +24,4 @@ meaning (Sample index) = text "a sample is outside its limits; the place is its 
 meaning (Overload index) = text "a wave became too large; the place is the index of the sample\n"
 meaning Room = text "the room is not four bytes for each whole sample\n"
 meaning (LeftOver samples) = text "the take ends inside a sample; the place is how many samples are done\n"
+meaning Voltage = text "the knee or the thermal voltage is below 1, the thermal voltage is no multiple of 32, or the last column would be above 67108864\n"

@@ -228,10 +228,11 @@ pub enum Answer {
     Overload(usize),
     Room,
     LeftOver(usize),
+    Voltage,
 }
 
 impl Answer {
-    // From 0, done, to 17.
+    // From 0, done, to 18.
     pub fn number(self) -> u64
         ensures { λ n. ⌜ n ≡ handed self .number ⌝ }
     {
@@ -254,6 +255,7 @@ impl Answer {
             Answer::Overload(_) => 15,
             Answer::Room => 16,
             Answer::LeftOver(_) => 17,
+            Answer::Voltage => 18,
         }
     }
 
@@ -280,6 +282,7 @@ impl Answer {
             Answer::Overload(index) => index as u64,
             Answer::Room => 0,
             Answer::LeftOver(samples) => samples as u64,
+            Answer::Voltage => 0,
         }
     }
 
@@ -347,6 +350,14 @@ pub struct Feed {
     pub answer: Answer,
     pub done: usize,
     pub carried: Carried,
+}
+
+// What building a curve hands back: a curve as a record has it. On refusal no kind, no columns, and zeros.
+pub struct Built {
+    pub answer: Answer,
+    pub kind: CurveKind,
+    pub width: u8,
+    pub columns: [Column; COLUMNS],
 }
 
 // Whether microvolts keep the limit of a steady source and of a sample.

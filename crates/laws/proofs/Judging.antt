@@ -1,5 +1,5 @@
 -- Laws of judging: a list of rules is tried in order, so it is decided by the first that fails. Where every number is above 0, number 0 says
--- that every rule passes. Each is by induction on the list; set-up's ten rules are the instance at the end.
+-- that every rule passes. Each is by induction on the list; set-up's ten rules and those of reading are the instances at the end.
 use Prim.Native.Nat.{ℕ, zero, suc, _<_}
 use native.Mathlib.Nat.{lt-irrefl}
 use native.Mathlib.Omega.{arith}
@@ -12,6 +12,7 @@ use Rattle.circuit.specs.Numbers.{Report, Verdict, passes, fails, Rule, report,
 use Rattle.circuit.specs.Record.{formRule, rateRule, childrenRule, usedOnceRule, inputAndTapRule, valueRule, recordRules}
 use Rattle.circuit.specs.Curve.{columnRule}
 use Rattle.circuit.specs.SetUp.{portResistanceRule, ratioRule, curveResistanceRule, portRules, setUpRules, setUpReport}
+use Rattle.circuit.specs.File.{recordOf, fileRules, readRules}
 use Rattle.circuit.specs.declared.Record.{Record}
 
 -- every rule passes
@@ -239,3 +240,9 @@ passed-done r h = pass-done setUpRules r (passed-pass r h)
 
 pub set-up-done : (r : Record) → setUpReport r .number ≡ 0 → setUpReport r ≡ done
 set-up-done r e = passed-done r (zero-passed r e)
+
+-- ---- the rules of reading
+
+pub read-numbered : Numbered readRules
+unfolding readRules fileRules
+read-numbered = both-numbered fileRules (of recordOf setUpRules) (lit< tt, (lit< tt, (lit< tt, (lit< tt, tt)))) (of-numbered recordOf setUpRules set-up-numbered)

@@ -11,7 +11,7 @@ use Rattle.circuit.specs.File.{concat}
 use Rattle.circuit.specs.Listing.{listingRoom}
 use Rattle.circuit.specs.Promises.{Explains}
 use Rattle.circuit.specs.declared.Answer.{Answer}
-use Rattle.circuit.specs.declared.Answer.the-variants.{Done, Length, Check, Version, Form, Rate, Tree, Value, Resistance, Ratio, Curve, Fit, Waves, Lengths, Sample, Overload, Room, LeftOver}
+use Rattle.circuit.specs.declared.Answer.the-variants.{Done, Length, Check, Version, Form, Rate, Tree, Value, Resistance, Ratio, Curve, Fit, Waves, Lengths, Sample, Overload, Room, LeftOver, Voltage}
 use Rattle.listing.specs.Writing.{Puts}
 use Rattle.listing.specs.Numbered.{lineLength, lineStart, line}
 use Rattle.listing.proofs.Texts.{starts, starts-bytes, ends-within}
@@ -20,7 +20,7 @@ use Rattle.listing.proofs.Texts.{starts, starts-bytes, ends-within}
 unfoldable pub allWords : List ℕ
 allWords =
     concat (map meaning (
-    Done ∷ Length ∷ Check 0 ∷ Version ∷ Form ∷ Rate ∷ Tree 0 ∷ Value 0 ∷ Resistance 0 ∷ Ratio 0 ∷ Curve 0 ∷ Fit ∷ Waves 0 ∷ Lengths ∷ Sample 0 ∷ Overload 0 ∷ Room ∷ LeftOver 0 ∷ []
+    Done ∷ Length ∷ Check 0 ∷ Version ∷ Form ∷ Rate ∷ Tree 0 ∷ Value 0 ∷ Resistance 0 ∷ Ratio 0 ∷ Curve 0 ∷ Fit ∷ Waves 0 ∷ Lengths ∷ Sample 0 ∷ Overload 0 ∷ Room ∷ LeftOver 0 ∷ Voltage ∷ []
     ))
 
 -- an answer's words are the line with its number, and there is room for them
@@ -44,6 +44,7 @@ numbered (Sample index) = (refl, lit≤ tt)
 numbered (Overload index) = (refl, lit≤ tt)
 numbered Room = (refl, lit≤ tt)
 numbered (LeftOver samples) = (refl, lit≤ tt)
+numbered Voltage = (refl, lit≤ tt)
 
 pub explains : {a : Answer} {most n : ℕ} {out after : List ℕ} → Puts most (meaning a) 0 out n after → Explains a out n after
 explains p = record { size = starts p; text = starts-bytes p }

@@ -64,7 +64,8 @@ pub fn explain(a: Answer, out: &mut Page) -> usize
         a sample is outside its limits; the place is its index\n\
         a wave became too large; the place is the index of the sample\n\
         the room is not four bytes for each whole sample\n\
-        the take ends inside a sample; the place is how many samples are done\n",
+        the take ends inside a sample; the place is how many samples are done\n\
+        the knee or the thermal voltage is below 1, the thermal voltage is no multiple of 32, or the last column would be above 67108864\n",
         number,
     )
 }

@@ -5,3 +5,4 @@ pub mod Takes
 pub mod RunBound
 pub mod Curve
 pub mod OneAnswer
+pub mod Knee

@@ -3,3 +3,4 @@ pub mod Limit
 pub mod Pieces
 pub mod Takes
 pub mod Curve
+pub mod Knee

@@ -6,17 +6,17 @@ use native.Mathlib.Omega.{arith}
 use borrow.Author.Tests.{eq-eqb, ne-eqb}
 use mathlib.Core.Path.{_≡_, refl, sym, ap, _∙_}
 use mathlib.Core.Bool.{cond}
-use mathlib.Core.List.{List, [], _∷_, _++_}
-use lib.Dec.{lit<, eqb}
+use mathlib.Core.List.{List, [], _∷_}
+use lib.Dec.{eqb}
 use lib.ListN.{length, length-replicate}
 use Rattle.circuit.specs.Numbers.{Report, Rule, handed, report, done, rule, judge, of, unless}
-use Rattle.circuit.specs.SetUp.{setUpReport, setUpRules}
-use Rattle.circuit.specs.File.{zeros, fileLength, numberOf, recordOf, noRecord, fileLengthRule, fileRules, fileOf, readRules, readReport, readRecord, bufferAfter}
+use Rattle.circuit.specs.SetUp.{setUpReport}
+use Rattle.circuit.specs.File.{zeros, fileLength, numberOf, recordOf, noRecord, fileLengthRule, fileOf, readRules, readReport, readRecord, bufferAfter}
 use Rattle.circuit.specs.Promises.{Reads, Writes}
 use Rattle.circuit.specs.declared.Answer.{Answer}
 use Rattle.circuit.specs.declared.Reading.{Reading}
 use Rattle.circuit.specs.declared.Record.{Record}
-use Rattle.laws.proofs.Judging.{Numbered, judge-fail, pass-done, judge-rest, judge-stop, judge-of, zero-pass, zero-done, set-up-numbered, set-up-done}
+use Rattle.laws.proofs.Judging.{judge-fail, pass-done, judge-rest, judge-stop, judge-of, of-numbered, zero-pass, zero-done, set-up-done, read-numbered}
 use Rattle.blocks.specs.Placing.{Bytes}
 use Rattle.blocks.proofs.Judged.{judged-sound}
 use Rattle.file.specs.Held.{Held}
@@ -24,27 +24,11 @@ use Rattle.file.proofs.Reported.{read-judged, write-stop, write-on}
 use Rattle.file.proofs.RoundTrips.{read-then-written, written-then-read}
 use Rattle.uses.specs.Promises.{RewriteCall, rewriteRules, Rewrites, Rereads}
 
--- ---- numbers above 0
-
-module _ {A : Type 0} where
-  numbered-append : (rs ss : List (Rule A)) → Numbered rs → Numbered ss → Numbered (rs ++ ss)
-  numbered-append [] ss m n = n
-  numbered-append (r ∷ rs) ss m n = (m .0, numbered-append rs ss (m .1) n)
-
-  numbered-of : {B : Type 0} (f : B → A) (rs : List (Rule A)) → Numbered rs → Numbered (of f rs)
-  unfolding of
-  numbered-of f [] n = tt
-  numbered-of f (r ∷ rs) n = (n .0, numbered-of f rs (n .1))
-
-read-numbered : Numbered readRules
-unfolding readRules fileRules
-read-numbered = numbered-append fileRules (of recordOf setUpRules) (lit< tt, (lit< tt, (lit< tt, (lit< tt, tt)))) (numbered-of recordOf setUpRules set-up-numbered)
+-- ---- reading, then writing
 
 read-done : (s : List ℕ) → readReport s .number ≡ 0 → readReport s ≡ done
 unfolding readReport
 read-done s e = zero-done readRules s read-numbered e
-
--- ---- reading, then writing
 
 abbrev ownLength : Rule RewriteCall
 ownLength = rule 1 (λ w. fileLengthRule (w .buffer))
@@ -61,7 +45,7 @@ module _ (w : RewriteCall) where
   read-passed e =
       let same = judge-of (λ (v : RewriteCall). v .file) readRules w in
       judge-rest (of (λ v. v .file) readRules) (ownLength ∷ []) w
-      (zero-pass (of (λ v. v .file) readRules) w (numbered-of (λ (v : RewriteCall). v .file) readRules read-numbered) (ap (λ s. s .number) same ∙ e))
+      (zero-pass (of (λ v. v .file) readRules) w (of-numbered (λ (v : RewriteCall). v .file) readRules read-numbered) (ap (λ s. s .number) same ∙ e))
 
   -- by what is handed back
   rewrites : (n : Report) → judge rewriteRules w ≡ n → {a : Answer} {after : List ℕ} → handed a ≡ n → after ≡ cond (eqb (n .number) 0) (w .file) (w .buffer) → Rewrites w a after

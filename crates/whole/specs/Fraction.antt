@@ -6,7 +6,7 @@ use native.Mathlib.Nat.{mul-pos}
 use mathlib.Core.Path.{_≡_}
 use mathlib.Core.Bool.{Bool}
 use lib.IntN.{ℤ, pos, _+ℤ_, _*ℤ_, negℤ}
-use lib.Signed.{_≤ℤ_, ltZ}
+use lib.Signed.{_≤ℤ_, ltZ, shrZ}
 
 pub record Fraction : Type 0 where
   pub num : ℤ
@@ -33,9 +33,17 @@ negF p = record { num = negℤ (p .num); den = p .den; den-pos = p .den-pos }
 abbrev pub _-F_ : Fraction → Fraction → Fraction
 p -F q = p +F negF q
 
+infixl 7 _*F_
+abbrev pub _*F_ : Fraction → Fraction → Fraction
+p *F q = record { num = p .num *ℤ q .num; den = p .den * q .den; den-pos = mul-pos (p .den-pos) (q .den-pos) }
+
 -- c·p / k
 abbrev pub times : (c : ℤ) (k : ℕ) → zero < k → Fraction → Fraction
 times c k h p = record { num = c *ℤ p .num; den = k * p .den; den-pos = mul-pos h (p .den-pos) }
+
+-- rounded down
+abbrev pub floor : Fraction → ℤ
+floor p = shrZ (p .num) (p .den)
 
 -- p is below the whole number z, as a test
 abbrev pub below : Fraction → ℤ → Bool

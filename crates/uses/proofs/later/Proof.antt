@@ -8,7 +8,7 @@ use denote.Enum.Declared.{tagOf}
 use Rattle.circuit.proofs.Answer as Answers
 use Rattle.circuit.specs.Numbers.{handed}
 use Rattle.circuit.specs.declared.Answer.{Answer}
-use Rattle.circuit.specs.declared.Answer.the-variants.{Done, Length, Check, Version, Form, Rate, Tree, Value, Resistance, Ratio, Curve, Fit, Waves, Lengths, Sample, Overload, Room, LeftOver}
+use Rattle.circuit.specs.declared.Answer.the-variants.{Done, Length, Check, Version, Form, Rate, Tree, Value, Resistance, Ratio, Curve, Fit, Waves, Lengths, Sample, Overload, Room, LeftOver, Voltage}
 use Rattle.theorems.specs.Pieces as Pieces
 use Rattle.uses.proofs.later.Statement.{statement}
 use Rattle.uses.proofs.later.Tie as tie
@@ -31,7 +31,7 @@ returns-2 c = rw (c .before .answer2 .given .1) refl
 
 -- the other answers, by their tags
 abbrev others : List ℕ
-others = 0 ∷ 1 ∷ 2 ∷ 3 ∷ 4 ∷ 5 ∷ 6 ∷ 7 ∷ 8 ∷ 9 ∷ 10 ∷ 11 ∷ 12 ∷ 13 ∷ 16 ∷ 17 ∷ []
+others = 0 ∷ 1 ∷ 2 ∷ 3 ∷ 4 ∷ 5 ∷ 6 ∷ 7 ∷ 8 ∷ 9 ∷ 10 ∷ 11 ∷ 12 ∷ 13 ∷ 16 ∷ 17 ∷ 18 ∷ []
 
 other : (at : ℕ) (a : Answer) → OneOf others (tagOf Answers.the-type a) → handed a ≡ Pieces.later at (handed a)
 unfolding handed
@@ -53,6 +53,7 @@ other at (Sample i) h = absurd (miss others 14 tt h)
 other at (Overload i) h = absurd (miss others 15 tt h)
 other at Room h = refl
 other at (LeftOver n) h = refl
+other at Voltage h = refl
 
 returns-3 : tie.Need-returns-3
 returns-3 c = other (c .before .args .at) (c .before .args .answer) (c .match .keys3)
