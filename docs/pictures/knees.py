@@ -46,21 +46,21 @@ p.text(28, 56, "knob A 45312 < circuits/clipper.circuit", ink=GREY)
 
 # ---- the curves, in volts
 
-LEFT, BASE, VOLT = 70, 240, 310
+LEFT, BASE, VOLT = 70, 264, 310
 
 
 def on(x, y):
-    return LEFT + VOLT * x / 1e6, BASE - VOLT * y / 1e6 * 0.45
+    return LEFT + VOLT * x / 1e6, BASE - VOLT * y / 1e6 * 0.5
 
 
 p.text(on(0, 0)[0], 84, "wave sent back", size=12, ink=GREY)
-p.text(on(FURTHEST, 0)[0] + 8, BASE - 6, "wave", "end", 12, GREY)
-for tenths in range(-8, 11, 2):
+p.text(on(FURTHEST, 0)[0], 392, "wave that reaches the diode", "end", 12, GREY)
+for tenths in range(-6, 11, 2):
     x, y = on(0, tenths * 100_000)
     p.run([(x, y), on(FURTHEST, tenths * 100_000)], ink=GREY if tenths == 0 else "#ddd", width=1)
     p.text(x - 8, y + 4, f"{tenths / 10:g} V".replace("-", "\u2212"), "end", 12, GREY)
 for tenths in range(0, 11, 2):
-    x, y = on(tenths * 100_000, -800_000)
+    x, y = on(tenths * 100_000, -600_000)
     p.run([(x, y), (x, y + 5)], ink=GREY, width=1)
     p.text(x, y + 20, f"{tenths / 10:g} V", "middle", 12, GREY)
 p.run([on(0, 0), on(FURTHEST, FURTHEST)], ink=GREY, width=1, dash="4 4")
@@ -73,7 +73,7 @@ for knee, ink, circuit in built:
 
 # ---- the take through each, in volts
 
-START, END, MID, HIGH = 500, 870, 240, 150
+START, END, MID, HIGH = 500, 870, 244, 142
 SHOWN = 5 * RATE // 1000
 p.text(START, 84, "takes/tone.raw through each", size=12, ink=GREY)
 
