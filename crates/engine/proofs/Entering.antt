@@ -8,9 +8,6 @@ use mathlib.Core.Bool.{false, true≢false}
 use mathlib.Core.List.{List}
 use lib.ListN.{length, getD, set, length-set}
 use lib.IntN.{ℤ, pos}
-use mir.Syntax.{w64}
-use mir.Val.{toZ}
-use mir.Facts.{toZ-pos}
 use Rattle.circuit.specs.Record.{rowIn, partAt, isAdaptor}
 use Rattle.circuit.specs.SetUp.{ratioAt}
 use Rattle.circuit.specs.declared.Adaptor.{Adaptor as Joint}
@@ -132,7 +129,7 @@ module _ {rows : List Row} {count : ℕ} {prepared slots : List ℕ} {js : Joint
     }
 
     pub filled-more : (a : Joint) → rowIn rows i .part ≡ Adaptor a → i < count → (k code : ℕ) → k ≡ getD slots i 0 - floor - 1 → joinOf code ≡ a .join
-        → Filled rows count prepared slots (i + 1) (put js k code (getD slots (a .first) 0) (getD slots (a .second) 0) (toZ w64 (getD prepared i 0)))
+        → Filled rows count prepared slots (i + 1) (put js k code (getD slots (a .first) 0) (getD slots (a .second) 0) (pos (getD prepared i 0)))
     filled-more a part inside k code place kind = record {
       room = record {
         joins = length-set (js .joins) k _ ∙ done .room .joins;
@@ -144,9 +141,8 @@ module _ {rows : List Row} {count : ℕ} {prepared slots : List ℕ} {js : Joint
           let l : i < r .count = omega arith in
           let q = part-of r i e ∙ part in
           let under = lower h i a q in
-          let ratio = h .ratio i l in
           entered-more h l a q (place ∙ ap (λ s. s - floor - 1) (h .slot i l)) (done .room) (done .entered r e f h) code _ _ _ kind
-          (h .slot (a .first) (omega arith)) (h .slot (a .second) (omega arith)) (toZ-pos w64 (omega (arith, h .accepted .ratio i)) ∙ ap pos ratio);
+          (h .slot (a .first) (omega arith)) (h .slot (a .second) (omega arith)) (ap pos (h .ratio i l));
     }
 
   pub filled-all : {n : ℕ} → n ≡ count → Filled rows count prepared slots n js

@@ -26,9 +26,9 @@ use Rattle.engine.specs.Wave.{downLimit, Beneath}
 use Rattle.engine.specs.Plan.{floor, slotOf, topSlot, Joints}
 use Rattle.engine.specs.Sweep.{rises, Risen, Swept, Modest, Drops, Reached}
 use Rattle.engine.proofs.Range.{sendsTo, down-range}
-use Rattle.engine.proofs.Turn.{childOf, child-there, child-under, parent-is, same-row, adaptor-slot, read, readAt, read-as, Turn}
+use Rattle.engine.proofs.Turn.{childOf, child-there, child-under, parent-is, same-row, adaptor-slot, Turn}
 use Rattle.engine.proofs.Turn.{child-inside, own-slot, child-slot, slots-apart, slot-inside, rises-range, few, both-few}
-use Rattle.engine.proofs.Turn.{ratio-read, wave-read, sends-right, below}
+use Rattle.engine.proofs.Turn.{wave-right, sends-right, below}
 
 -- ---- what holds of every wave, and of one that is stored, holds of every wave afterwards
 
@@ -78,7 +78,7 @@ module _ {js : Joints} {n : ℕ} (s : Swept js n) where
   open Swept s using (circuit as r, wave as w, accepted, slotted, all)
 
   module _ {own : ℕ} {j : Join} {slots : Bool → ℕ} {g : ℤ} (t : Turn r own j slots g) {top : ℤ} {ds : List ℤ} (falling : Falling r w top own ds) where
-    open Turn t using (row, joint, inside, part, place, join, child)
+    open Turn t using (row, joint, inside, part, place, join, child, ratio)
 
     -- its own wave came from the top, or from the adaptor above, in row p
     from-above : (p : ℕ) (a : Joint) (side : Bool) → p < r .count → partAt r p ≡ Adaptor a → row ≡ childOf a side → own < slotOf r p
@@ -96,37 +96,34 @@ module _ {js : Joints} {n : ℕ} (s : Swept js n) where
           from-above (p .0) (a .0) (a .1) (p .1 .inside) (a .2) (a .3) (rw (← place) (slotted .above (p .0) row (p .1 .child)))
     ]
 
-    own-read : readAt ds own ≡ storedAt ds own
-    own-read = read-as refl own-range (omega (arith, own-slot s t, slotted .few))
-
-    module _ {ups : List ℤ} (risen : Risen r w (suc floor + n) ups) where
+    -- `heard` are its children's waves, `a3` its own
+    module _ {ups : List ℤ} (risen : Risen r w (suc floor + n) ups)
+        {heard : Bool → ℤ} (hears : (side : Bool) → heard side ≡ storedAt ups (slots side)) {a3 : ℤ} (comes : a3 ≡ storedAt ds own) where
       enough : own ≤ suc floor + n
       enough = omega (arith, own-slot s t, all)
 
-      pub beneath : Beneath j (read g) (readAt ups (slots true)) (readAt ups (slots false)) (readAt ups own) (readAt ds own)
-      beneath = record {
-        below = below s t enough risen;
-        sent = read-as (ap (storedAt ups) (sym place) ∙ risen .right row inside (omega (arith, place, enough, own-slot s t, all)))
-            (rises-range s t row) (omega (arith, few s t row inside)) ∙ sym (sends-right s t enough risen);
-        above = rw own-read (abs-as own-range refl (omega (arith, own-slot s t, slotted .few)));
+      pub beneath : {u : ℤ} → u ≡ storedAt ups own → Beneath j g (heard true) (heard false) u a3
+      beneath e = record {
+        below = below s t enough risen hears;
+        sent = e ∙ ap (storedAt ups) (sym place) ∙ risen .right row inside (omega (arith, place, enough, own-slot s t, all))
+            ∙ sym (sends-right s t enough risen hears);
+        above = rw comes (abs-as own-range refl (omega (arith, own-slot s t, slotted .few)));
       }
 
       -- `v` is what is sent to each side
-      module _ (v : Bool → ℤ)
-          (e : (side : Bool) → v side ≡ sendsTo side j (natAbs (read g)) (readAt ups (slots true)) (readAt ups (slots false)) (readAt ds own)) where
+      module _ (v : Bool → ℤ) (e : (side : Bool) → v side ≡ sendsTo side j (natAbs g) (heard true) (heard false) a3) where
         after : List ℤ
-        after = set (set ds (slots true) (read (v true))) (slots false) (read (v false))
+        after = set (set ds (slots true) (v true)) (slots false) (v false)
 
         sent-range : (side : Bool) → Abs (falls r w row joint (storedAt ds own) side) (downLimit (suc (topSlot r - own)))
         sent-range side =
             abs-as (down-range (ratioAt r row) (accepted .ratio row) (rises-range s t _) (rises-range s t _) own-range side (joint .join)) refl
             (omega (arith, both-few s t))
 
-        sent-read : (side : Bool) → read (v side) ≡ falls r w row joint (storedAt ds own) side
-        sent-read side =
-            let waves = wave-read s t enough risen in
-            read-as (e side ∙ rw (waves true, waves false, own-read, join, ratio-read s t)) (sent-range side)
-            (omega (arith, own-slot s t, slotted .few))
+        sent-right : (side : Bool) → v side ≡ falls r w row joint (storedAt ds own) side
+        sent-right side =
+            let waves = wave-right s t enough risen hears in
+            e side ∙ rw (waves true, waves false, comes, join, ratio)
 
         room : (side : Bool) → slots side < length ds
         room side = omega (arith, slot-inside s t side, falling .modest .long)
@@ -134,8 +131,8 @@ module _ {js : Joints} {n : ℕ} (s : Swept js n) where
         -- the children have what is sent, and every other slot what it had
         at-child : (side : Bool) → storedAt after (slots side) ≡ falls r w row joint (storedAt ds own) side
         unfolding after
-        at-child true = let apart = slots-apart s t in let inside = room true in rw (getD-set-other, getD-set-same) (sent-read true)
-        at-child false = let inside = lt-length-set ds (slots true) (read (v true)) (room false) in rw getD-set-same (sent-read false)
+        at-child true = let apart = slots-apart s t in let inside = room true in rw (getD-set-other, getD-set-same) (sent-right true)
+        at-child false = let inside = lt-length-set ds (slots true) (v true) (room false) in rw getD-set-same (sent-right false)
 
         elsewhere : (x : ℕ) → ((side : Bool) → x ≡ slots side → ⊥) → storedAt after x ≡ storedAt ds x
         unfolding after
@@ -164,11 +161,11 @@ module _ {js : Joints} {n : ℕ} (s : Swept js n) where
               small = λ side. rw (kept side) (old .small side);
             }
 
-        pub fallen : {m : ℕ} → own ≤ suc m → Falling r w top m (set (set ds (slots true) (read (v true))) (slots false) (read (v false)))
+        pub fallen : {m : ℕ} → own ≤ suc m → Falling r w top m (set (set ds (slots true) (v true)) (slots false) (v false))
         unfolding after
         fallen more =
-            let small : (side : Bool) → Abs (read (v side)) (downLimit adaptorLimit) =
-            λ side. abs-as (sent-range side) (sym (sent-read side)) (omega (arith, own-slot s t, slotted .few)) in
+            let small : (side : Bool) → Abs (v side) (downLimit adaptorLimit) =
+            λ side. abs-as (sent-range side) (sym (sent-right side)) (omega (arith, own-slot s t, slotted .few)) in
             record {
               modest = modest-set (modest-set (falling .modest) (slots true) (small true)) (slots false) (small false);
               above = higher (topSlot r) (own-slot s t .1) ∙ falling .above;

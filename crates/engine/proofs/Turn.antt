@@ -1,5 +1,5 @@
 -- A turn of a sweep: the adaptor that it comes to, as the code reads it, and that adaptor's children. They go by their side: true is the first.
-use Prim.Native.Nat.{ℕ, suc, _+_, _^_, _<_, _≤_}
+use Prim.Native.Nat.{ℕ, suc, _+_, _<_, _≤_}
 use native.Mathlib.Decide.{ℕ-discrete}
 use native.Mathlib.Omega.{arith}
 use mathlib.Core.Path.{_≡_, refl, sym, ap, _∙_}
@@ -9,13 +9,9 @@ use mathlib.Core.List.{List}
 use lib.ListN.{getD, set, length-set}
 use lib.Seq.{getD-set-same, getD-set-other}
 use lib.IntN.{ℤ, pos, natAbs}
-use mir.Syntax.{w64}
-use mir.Val.{toZ, ofZ}
-use mir.Facts.{toZ-ofZ}
 use Rattle.whole.specs.Order.{Abs, abs-as}
-use Rattle.whole.specs.Signed.{fits-abs}
 use Rattle.circuit.specs.Record.{rowLimit, partAt, treeAt}
-use Rattle.circuit.specs.SetUp.{parts, ratioAt}
+use Rattle.circuit.specs.SetUp.{ratioAt}
 use Rattle.circuit.specs.Sample.{rounded, sendsUp, storedAt}
 use Rattle.circuit.specs.declared.Join.{Join}
 use Rattle.circuit.specs.declared.Adaptor.{Adaptor as Joint}
@@ -73,23 +69,13 @@ pub record Turn (r : Record) (own : ℕ) (j : Join) (slots : Bool → ℕ) (g : 
   pub child : (side : Bool) → slots side ≡ slotOf r (childOf joint side)
   pub ratio : g ≡ pos (ratioAt r row)
 
--- a number as code reads it back, and a wave from its slot
-abbrev pub read : ℤ → ℤ
-read z = toZ w64 (ofZ w64 z)
-
-abbrev pub readAt : List ℤ → ℕ → ℤ
-readAt ws slot = read (storedAt ws slot)
-
-pub read-as : {z x : ℤ} {e : ℕ} → z ≡ x → Abs x e → e < 2 ^ 63 → read z ≡ x
-read-as {x = x} e h l = rw e (toZ-ofZ (fits-abs x (omega (arith, h .bound))))
-
 module _ {js : Joints} {n : ℕ} (s : Swept js n) where
   open Swept s using (circuit as r, wave as w, accepted, slotted, all, staged, quiet)
 
-  pub turn : {k own : ℕ} → k < n → own ≡ suc floor + k → {j : Join} {first second : ℕ}
-      → j ≡ joinOf (getD (js .joins) k 0) → first ≡ getD (js .firsts) k 0 → second ≡ getD (js .seconds) k 0
-      → Turn r own j (λ side. cond side first second) (getD (js .ratios) k (pos 0))
-  turn {k} l o e f h =
+  pub turn : {k own : ℕ} → k < n → own ≡ suc floor + k → {j : Join} {first second : ℕ} {g : ℤ}
+      → j ≡ joinOf (getD (js .joins) k 0) → first ≡ getD (js .firsts) k 0 → second ≡ getD (js .seconds) k 0 → g ≡ getD (js .ratios) k (pos 0)
+      → Turn r own j (λ side. cond side first second) g
+  turn {k} l o e f h weight =
       let at = staged k (omega (arith, all)) in
       record {
         row = at .row;
@@ -99,7 +85,7 @@ module _ {js : Joints} {n : ℕ} (s : Swept js n) where
         place = at .place ∙ sym o;
         join = e ∙ at .join;
         child = λ side. elim side [ true ↦ f ∙ at .first | false ↦ h ∙ at .second ];
-        ratio = at .ratio;
+        ratio = weight ∙ at .ratio;
       }
 
   module _ {own : ℕ} {j : Join} {slots : Bool → ℕ} {g : ℤ} (t : Turn r own j slots g) where
@@ -135,38 +121,35 @@ module _ {js : Joints} {n : ℕ} (s : Swept js n) where
     unfolding adaptors
     both-few = let own = ap adaptors (tree-adaptor r (accepted .lower) row joint part) in omega (arith, few row inside)
 
-    pub ratio-read : read g ≡ pos (ratioAt r row)
-    ratio-read = read-as {e = parts} ratio (record { bound = omega (arith, accepted .ratio row) }) (omega arith)
-
-    module _ {m : ℕ} (enough : own ≤ m) {us : List ℤ} (risen : Risen r w m us) where
-      pub wave-read : (side : Bool) → readAt us (slots side) ≡ rises r w (childOf joint side)
-      wave-read side =
+    -- `heard` are its children's waves
+    module _ {m : ℕ} (enough : own ≤ m) {us : List ℤ} (risen : Risen r w m us)
+        {heard : Bool → ℤ} (hears : (side : Bool) → heard side ≡ storedAt us (slots side)) where
+      pub wave-right : (side : Bool) → heard side ≡ rises r w (childOf joint side)
+      wave-right side =
           let c = childOf joint side in
-          read-as (ap (storedAt us) (child side) ∙ risen .right c (child-inside side) (omega (arith, child-slot side, child side)))
-          (rises-range c) (omega (arith, few c (child-inside side)))
+          hears side ∙ ap (storedAt us) (child side) ∙ risen .right c (child-inside side) (omega (arith, child-slot side, child side))
 
-      pub sends-right : sendsUp rounded j (natAbs (read g)) (readAt us (slots true)) (readAt us (slots false)) ≡ rises r w row
-      sends-right = rw (wave-read true, wave-read false, join, ratio-read) (sym (up-adaptor r (accepted .lower) row joint part rounded (ratioAt r) w))
+      pub sends-right : sendsUp rounded j (natAbs g) (heard true) (heard false) ≡ rises r w row
+      sends-right = rw (wave-right true, wave-right false, join, ratio) (sym (up-adaptor r (accepted .lower) row joint part rounded (ratioAt r) w))
 
-      pub below : Below (read g) (readAt us (slots true)) (readAt us (slots false))
+      pub below : Below g (heard true) (heard false)
       below = record {
-        ratio = rw ratio-read (record { whole = refl; part = accepted .ratio row });
-        first = rw (wave-read true) (abs-as (rises-range (joint .first)) refl (omega (arith, both-few)));
-        second = rw (wave-read false) (abs-as (rises-range (joint .second)) refl (omega (arith, both-few)));
+        ratio = rw ratio (record { whole = refl; part = accepted .ratio row });
+        first = rw (wave-right true) (abs-as (rises-range (joint .first)) refl (omega (arith, both-few)));
+        second = rw (wave-right false) (abs-as (rises-range (joint .second)) refl (omega (arith, both-few)));
       }
 
     -- ---- the turn of the sweep up
 
-    pub climbed : {us : List ℤ} → Risen r w own us
-        → {u : ℤ} → u ≡ sendsUp rounded j (natAbs (read g)) (readAt us (slots true)) (readAt us (slots false))
-        → {m : ℕ} → m ≤ suc own → Risen r w m (set us own (read u))
-    climbed {us} risen {u} e more =
-        let sent = read-as (e ∙ sends-right (omega arith) risen) (rises-range row) (omega (arith, few row inside)) in
+    pub climbed : {us : List ℤ} → Risen r w own us → {heard : Bool → ℤ} → ((side : Bool) → heard side ≡ storedAt us (slots side))
+        → {u : ℤ} → u ≡ sendsUp rounded j (natAbs g) (heard true) (heard false) → {m : ℕ} → m ≤ suc own → Risen r w m (set us own u)
+    climbed {us} risen hears {u} e more =
+        let sent = e ∙ sends-right (omega arith) risen hears in
         record {
-          long = length-set us own (read u) ∙ risen .long;
+          long = length-set us own u ∙ risen .long;
           right = λ i l h. elim (ℕ-discrete (slotOf r i) own) [
-            | yes here ↦ rw here (getD-set-same us own (read u) (pos 0) (omega (arith, risen .long, own-slot, slotted .few)) ∙ sent
+            | yes here ↦ rw here (getD-set-same us own u (pos 0) (omega (arith, risen .long, own-slot, slotted .few)) ∙ sent
                 ∙ ap (rises r w) (same-row slotted row i inside l (place ∙ sym here)))
-            | no other ↦ getD-set-other us own (slotOf r i) (read u) (pos 0) other ∙ risen .right i l (omega arith)
+            | no other ↦ getD-set-other us own (slotOf r i) u (pos 0) other ∙ risen .right i l (omega arith)
           ];
         }

@@ -4,6 +4,7 @@
 use crate::curve::LINES;
 use crate::curve::Line;
 use crate::curve::lay_lines;
+use crate::slot::slot_at;
 use circuit::Join;
 use circuit::Part;
 use circuit::ROWS;
@@ -20,11 +21,14 @@ use sheet::part_in;
 ghost use mathlib.Core.Path.{_≡_};
 ghost use mathlib.Core.List.{List};
 ghost use Prim.Native.Nat.{ℕ, _-_, _≤_, _<_};
-ghost use lib.ListN.{length, getD};
+ghost use lib.IntN.{pos};
+ghost use lib.ListN.{length, getD, set};
 ghost use Rattle.circuit.specs.Record.{rowLimit, partAt, adaptorsOf};
+ghost use Rattle.circuit.specs.SetUp.{parts};
 ghost use Rattle.circuit.specs.Sample.{storedAt};
 ghost use Rattle.circuit.specs.declared.Row.{Row};
 ghost use Rattle.circuit.specs.declared.Record.{Record};
+ghost use Rattle.laws.specs.Accepted.{adaptorLimit};
 ghost use Rattle.sheet.specs.Sheet.{headingOf, rowsIn, columnsIn, recordIn, partIn};
 ghost use Rattle.parts.specs.Parts.{turnOf, mirrorOf};
 ghost use Rattle.engine.specs.Curve.{lineLimit};
@@ -135,6 +139,31 @@ fn slots_of(roles: &[u8; ROWS], count: usize, q: usize) -> [u8; ROWS]
     slots
 }
 
+// The kind of adaptor k.
+fn enter_join(joins: &mut [u8; JOINTS], k: usize, join: Join)
+    requires { ⌜ k < adaptorLimit ⌝ }
+    ensures { λ u. ⌜ ((code : ℕ) × (joinOf code ≡ join) × (now (joins .exit) ≡ set (now (joins .entry)) k code)) ⌝ }
+{
+    joins[k] = code_of(join);
+}
+
+// The slot of a child of adaptor k.
+fn enter_child(children: &mut [u8; JOINTS], k: usize, slots: &[u8; ROWS], row: u8)
+    requires { ⌜ (k < adaptorLimit) × (row < rowLimit) ⌝ }
+    ensures { λ u. ⌜ now (children .exit) ≡ set (now (children .entry)) k (getD (now (slots .entry)) row 0) ⌝ }
+{
+    let child = wide(row);
+    children[k] = slots[child];
+}
+
+// The ratio of adaptor k, which is row i.
+fn enter_ratio(ratios: &mut [i64; JOINTS], k: usize, prepared: &[u32; ROWS], i: usize)
+    requires { ⌜ (k < adaptorLimit) × (i < rowLimit) × (getD (now prepared) i 0 < parts) ⌝ }
+    ensures { λ u. ⌜ now (ratios .exit) ≡ set (now (ratios .entry)) k (pos (getD (now (prepared .entry)) i 0)) ⌝ }
+{
+    ratios[k] = prepared[i] as i64;
+}
+
 // Enters each adaptor's kind, its children's slots and its ratio at its place.
 fn lay_joints(
     count: usize,
@@ -162,13 +191,11 @@ fn lay_joints(
             Part::Leaf(_) => {}
             Part::Adaptor(a) => {
                 let join = a.join;
-                let first = wide(a.first);
-                let second = wide(a.second);
-                let k = wide(slots[i]) - FLOOR - 1;
-                joins[k] = code_of(join);
-                firsts[k] = slots[first];
-                seconds[k] = slots[second];
-                ratios[k] = prepared[i] as i64;
+                let k = slot_at(slots, i) - FLOOR - 1;
+                enter_join(joins, k, join);
+                enter_child(firsts, k, slots, a.first);
+                enter_child(seconds, k, slots, a.second);
+                enter_ratio(ratios, k, prepared, i);
             }
         }
     }
@@ -189,7 +216,7 @@ fn turns_of(
     let mut turns = [0i64; ROWS];
     for i in 0..count {
         let part = part_at(cells, microvolts, values, i);
-        let s = wide(slots[i]);
+        let s = slot_at(slots, i);
         turns[s] = turn(part);
     }
     turns

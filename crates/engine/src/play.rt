@@ -8,6 +8,7 @@ use crate::plan::part_at;
 use crate::plan::wide;
 use crate::sample::Outcome;
 use crate::sample::sample;
+use crate::slot::slot_at;
 use circuit::Answer;
 use circuit::Doubled;
 use circuit::Progress;
@@ -53,7 +54,7 @@ pub(crate) fn load(
         let part = part_at(cells, microvolts, values, i);
         let sent = part_sends(part, state.waves[i]);
         let next = sent.0;
-        let s = wide(slots[i]);
+        let s = slot_at(slots, i);
         up[s] = next;
     }
     up
@@ -77,7 +78,7 @@ pub(crate) fn unload(
     };
     for i in 0..count {
         let part = part_at(cells, microvolts, values, i);
-        let s = wide(slots[i]);
+        let s = slot_at(slots, i);
         let taken = part_taken(part, Wave(up[s]));
         let stored = taken.0 as i32;
         state.waves[i] = stored;

@@ -5,6 +5,7 @@ use crate::curve::reflect;
 use crate::plan::FLOOR;
 use crate::plan::JOINTS;
 use crate::plan::Shape;
+use crate::slot::wave_at;
 use crate::sweep::sweep_down;
 use crate::sweep::sweep_up;
 use circuit::Doubled;
@@ -121,7 +122,7 @@ fn settle(shape: Shape, turns: &[i64; ROWS], up: &mut [i64; ROWS], down: &[i64; 
         return Outcome::Over;
     }
     let tap = shape.tap;
-    let output = tapped(Wave(up[tap]), Wave(down[tap]));
+    let output = tapped(wave_at(up, tap), wave_at(down, tap));
     store(turns, shape.reactive, down, up);
     Outcome::Finished(output)
 }

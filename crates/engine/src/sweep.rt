@@ -1,12 +1,14 @@
 // The sweeps: waves up from the lowest adaptor to the top, and down again. Adaptor k has its wave at slot FLOOR + 1 + k.
 use crate::plan::FLOOR;
 use crate::plan::JOINTS;
-use crate::plan::join_of;
-use crate::plan::wide;
+use crate::slot::child_at;
+use crate::slot::join_at;
+use crate::slot::put_wave;
+use crate::slot::ratio_at;
+use crate::slot::wave_at;
 use crate::wave::sends_down;
 use crate::wave::sends_up;
 use circuit::ROWS;
-use circuit::Wave;
 ghost use Prim.Native.Nat.{suc, _+_};
 ghost use Rattle.engine.specs.Plan.{floor, jointsOf};
 ghost use Rattle.engine.specs.Sweep.{Climbs, Risen, Drops, Reached};
@@ -23,12 +25,15 @@ pub(crate) fn sweep_up(
     ensures { λ r. ⌜ ((c : Climbs (jointsOf (now (joins .entry)) (now (firsts .entry)) (now (seconds .entry)) (now (ratios .entry))) n (now (up .entry))) → Risen (c .swept .circuit) (c .swept .wave) (suc floor + n) (now (up .exit))) ⌝ }
 {
     for k in 0..n {
-        let join = join_of(joins[k]);
-        let first = wide(firsts[k]);
-        let second = wide(seconds[k]);
-        let u = sends_up(join, ratios[k], Wave(up[first]), Wave(up[second]));
-        let sent = u.0;
-        up[FLOOR + 1 + k] = sent;
+        let first = child_at(firsts, k);
+        let second = child_at(seconds, k);
+        let sent = sends_up(
+            join_at(joins, k),
+            ratio_at(ratios, k),
+            wave_at(up, first),
+            wave_at(up, second),
+        );
+        put_wave(up, FLOOR + 1 + k, sent);
     }
 }
 
@@ -48,23 +53,18 @@ pub(crate) fn sweep_down(
     let mut slot = FLOOR + n;
     while FLOOR < slot {
         let k = slot - FLOOR - 1;
-        let join = join_of(joins[k]);
-        let first = wide(firsts[k]);
-        let second = wide(seconds[k]);
+        let first = child_at(firsts, k);
+        let second = child_at(seconds, k);
         let b = sends_down(
-            join,
-            ratios[k],
-            Wave(up[first]),
-            Wave(up[second]),
-            Wave(up[slot]),
-            Wave(down[slot]),
+            join_at(joins, k),
+            ratio_at(ratios, k),
+            wave_at(up, first),
+            wave_at(up, second),
+            wave_at(up, slot),
+            wave_at(down, slot),
         );
-        let b1 = b.first;
-        let b2 = b.second;
-        let to_first = b1.0;
-        let to_second = b2.0;
-        down[first] = to_first;
-        down[second] = to_second;
+        put_wave(down, first, b.first);
+        put_wave(down, second, b.second);
         slot -= 1;
     }
 }

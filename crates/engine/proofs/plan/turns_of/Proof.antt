@@ -23,20 +23,20 @@ loop-holds c = (laid-own (c .pre .1 .many) (c .pre .1 .layable), omega arith, pl
 
 module _ (c : tie.After-turn Inv-loop μ-loop) where
   abbrev at-part : tie.After-part-at Inv-loop μ-loop
-  at-part = c .before .before .before
+  at-part = c .before .before
 
   abbrev at-loop : tie.At-loop Inv-loop μ-loop
   at-loop = at-part .before .before
 
   -- the slot written to
-  low : c .before .wide .result < rowLimit
-  low = let l = at-loop .loop in rw (c .before .wide .ensures) (l .inv .0 .low (l .i) (omega arith))
+  low : c .before .slot-at .result < rowLimit
+  low = let l = at-loop .loop in rw (c .before .slot-at .ensures) (l .inv .0 .low (l .i) (omega arith))
 
 loop-again : tie.Need-loop-again Inv-loop μ-loop
 loop-again c =
     let l = at-loop c .loop in
     let value = returned _ (c .turn .ok) ∙ c .turn .ensures ∙ ap turnOf (at-part c .part-at .ensures) in
-    (l .inv .0, omega arith, placed-more (l .inv .0) (omega arith) (c .before .wide .ensures) value (l .inv .2))
+    (l .inv .0, omega arith, placed-more (l .inv .0) (omega arith) (c .before .slot-at .ensures) value (l .inv .2))
 
 returns : tie.Need-returns Inv-loop μ-loop
 returns c = λ r h.
@@ -47,5 +47,5 @@ returns c = λ r h.
 pub turns-of-spec : {M : Type 1} → statement M
 turns-of-spec =
     tie.close
-    (tie.spec Inv-loop μ-loop loop-holds (λ c κs. omega arith) (λ c. omega arith) (λ c κs. tt) (λ c κs. tt) (λ c. omega (arith, low c)) low
+    (tie.spec Inv-loop μ-loop loop-holds (λ c κs. omega arith) (λ c κs. omega arith) (λ c κs. tt) (λ c. omega (arith, low c)) low
     (λ c. omega arith) (λ c. omega arith) loop-again returns)

@@ -27,9 +27,9 @@ abbrev μ-loop : tie.MeasureT-loop
 loop-holds : tie.Need-loop-holds Inv-loop μ-loop
 loop-holds c = (laid-own (c .pre .1 .many) (c .pre .1 .layable), omega arith, placed-start refl)
 
-module _ (c : tie.After-wide Inv-loop μ-loop) where
+module _ (c : tie.After-slot-at Inv-loop μ-loop) where
   abbrev sent : tie.After-part-sends Inv-loop μ-loop
-  sent = c .before .before .before
+  sent = c .before .before
 
   abbrev at-part : tie.After-part-at Inv-loop μ-loop
   at-part = sent .before .before
@@ -38,8 +38,8 @@ module _ (c : tie.After-wide Inv-loop μ-loop) where
   at-loop = at-part .before .before
 
   -- the slot written to
-  low : c .wide .result < rowLimit
-  low = rw (c .wide .ensures) (at-loop .loop .inv .0 .low (at-loop .loop .i) (omega arith))
+  low : c .slot-at .result < rowLimit
+  low = rw (c .slot-at .ensures) (at-loop .loop .inv .0 .low (at-loop .loop .i) (omega arith))
 
 loop-again : tie.Need-loop-again Inv-loop μ-loop
 loop-again c =
@@ -49,8 +49,8 @@ loop-again c =
     let call = sent c in
     let stored : SFits w32 (storedAt (a .t6 .waves) i) = record { sfits = call .before .part-sends-arg .given } in
     let sends = rw (toZ-ofZ stored) at (call .part-sends .ensures) ∙ ap (partSends rounded (pos 0) (storedAt (a .t6 .waves) i)) (at-part c .part-at .ensures) in
-    let wave = returned (call .part-sends .result .0) (c .before .before .struct-told .given .0 .1) ∙ sends in
-    (inv .0, omega arith, placed-more (inv .0) (omega arith) (c .wide .ensures) wave (inv .2))
+    let wave = returned (call .part-sends .result .0) (c .before .struct-told .given .0 .1) ∙ sends in
+    (inv .0, omega arith, placed-more (inv .0) (omega arith) (c .slot-at .ensures) wave (inv .2))
 
 -- a state that code holds has a wave for each row
 returns : tie.Need-returns Inv-loop μ-loop
@@ -65,5 +65,5 @@ returns c r seat waves =
 pub load-spec : {M : Type 1} → statement M
 load-spec =
     tie.close
-    (tie.spec Inv-loop μ-loop loop-holds (λ c κs. omega arith) (λ c. omega arith) (λ c. omega arith) (λ c κs. tt) (λ c. omega arith) (λ c κs. tt)
+    (tie.spec Inv-loop μ-loop loop-holds (λ c κs. omega arith) (λ c. omega arith) (λ c. omega arith) (λ c κs. tt) (λ c κs. omega arith)
     (λ c. omega (arith, low c)) low (λ c. omega arith) (λ c. omega arith) loop-again returns)

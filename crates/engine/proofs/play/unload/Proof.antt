@@ -36,24 +36,24 @@ abbrev μ-loop : tie.MeasureT-loop
 loop-holds : tie.Need-loop-holds Inv-loop μ-loop
 loop-holds c = (laid-own (c .pre .2 .many) (c .pre .2 .layable), omega arith, refl, λ j l. absurd (omega arith), λ j l. zeros-at rowLimit j)
 
-module _ (c : tie.After-wide Inv-loop μ-loop) where
+module _ (c : tie.After-slot-at Inv-loop μ-loop) where
   abbrev at-part : tie.After-part-at Inv-loop μ-loop
-  at-part = c .before .before
+  at-part = c .before
 
   abbrev at-loop : tie.At-loop Inv-loop μ-loop
   at-loop = at-part .before .before
 
   -- the slot read
-  low : c .wide .result < rowLimit
-  low = rw (c .wide .ensures) (at-loop .loop .inv .0 .low (at-loop .loop .i) (omega arith))
+  low : c .slot-at .result < rowLimit
+  low = rw (c .slot-at .ensures) (at-loop .loop .inv .0 .low (at-loop .loop .i) (omega arith))
 
 -- the wave taken out
 module _ (c : tie.After-part-taken Inv-loop μ-loop) where
-  abbrev at-wide : tie.After-wide Inv-loop μ-loop
-  at-wide = c .before .before
+  abbrev at-slot : tie.After-slot-at Inv-loop μ-loop
+  at-slot = c .before .before
 
   abbrev turn : tie.At-loop Inv-loop μ-loop
-  turn = at-loop at-wide
+  turn = at-loop at-slot
 
   abbrev start : tie.Start Inv-loop μ-loop
   start = turn .before
@@ -64,8 +64,8 @@ module _ (c : tie.After-part-taken Inv-loop μ-loop) where
   out : c .part-taken .result .0 ≡ outOf rows (start .args .slots .now) (start .args .t6) (turn .loop .i)
   out =
       let a = start .args in
-      rw (returned _ (c .before .t22 .given)) at (c .part-taken .ensures)
-      ∙ ap₂ (λ p s. partTaken p (storedAt (a .t6) s)) (at-part at-wide .part-at .ensures) (at-wide .wide .ensures)
+      rw (returned _ (c .before .t19 .given)) at (c .part-taken .ensures)
+      ∙ ap₂ (λ p s. partTaken p (storedAt (a .t6) s)) (at-part at-slot .part-at .ensures) (at-slot .slot-at .ensures)
 
   limited : Abs (c .part-taken .result .0) waveLimit
   limited = let t = taken (start .pre .2) (start .pre .3) (turn .loop .i) (omega arith) in abs-as (t .1) (sym (out ∙ t .0)) (omega arith)
@@ -100,6 +100,6 @@ returns c r ws seat l =
 pub unload-spec : {M : Type 1} → statement M
 unload-spec =
     tie.close
-    (tie.spec Inv-loop μ-loop loop-holds (λ c κs. omega arith) (λ c. omega arith) (λ c κs. tt) (λ c. omega (arith, low c)) low (λ c κs. tt)
+    (tie.spec Inv-loop μ-loop loop-holds (λ c κs. omega arith) (λ c κs. omega arith) (λ c. omega (arith, low c)) low (λ c κs. tt)
     (λ c. rw (limit-reads (limited (c .before .before))) (short (c .before .before))) (λ c. omega arith)
     (λ c. omega (arith, turn (c .before .before) .loop .inv .2)) (λ c. omega arith) (λ c. omega arith) loop-again returns)

@@ -1,10 +1,11 @@
 -- `settle` meets its contract. A leaf over its limit leaves the waves as they are; else the tap's two waves and the reactive leaves' are in theirs.
-use native.Mathlib.Omega.{arith}
-use mathlib.Core.Path.{_≡_, refl, sym, _∙_}
+use mathlib.Core.Path.{_≡_, refl, sym, ap₂, _∙_}
 use mathlib.Core.Bool.{false}
 use borrow.Author.Needs.{needs}
+use lib.IntN.{ℤ, _+ℤ_}
+use Rattle.whole.specs.Order.{Abs}
+use Rattle.circuit.specs.Curve.{waveLimit}
 use Rattle.engine.specs.Sample.{leafOver, Port, Settled}
-use Rattle.engine.proofs.Limits.{limit-reads}
 use Rattle.engine.proofs.sample.settle.Statement.{statement}
 use Rattle.engine.proofs.sample.settle.Tie as tie
 
@@ -22,33 +23,32 @@ module _ (c : tie.Else1) where
   port : Port (start .args .up .now) (start .args .down .now) (start .args .shape .tap)
   port = start .pre .port calm
 
-tapped-requires : tie.Need-tapped-requires
-tapped-requires c κs = let p = port (c .before .before) in rw (limit-reads (p .sent), limit-reads (p .arriving)) (p .sent, p .arriving)
+-- where the tap's two waves are read
+module _ (c : tie.After-wave-at2) where
+  abbrev at-sent : tie.After-wave-at
+  at-sent = c .before
 
-module _ (c : tie.After-tapped) where
   abbrev at-else : tie.Else1
-  at-else = c .before .before .before
+  at-else = at-sent .before .before
+
+limited : {y z : ℤ} → y ≡ z → Abs z waveLimit → Abs y waveLimit
+limited e h = rw e h
+
+tapped-requires : tie.Need-tapped-requires
+tapped-requires c κs = let p = port (at-else c) in (limited (at-sent c .wave-at .ensures) (p .sent), limited (c .wave-at2 .ensures) (p .arriving))
 
 store-requires : tie.Need-store-requires
-store-requires c κs = let at = at-else (c .before) in start at .pre .restores (calm at)
+store-requires c κs = let at = at-else (c .before .before) in start at .pre .restores (calm at)
 
 returns-2 : tie.Need-returns-2
 unfolding Settled
 returns-2 c =
     let at-tapped = c .before .before in
-    let p = port (at-else at-tapped) in
-    (calm (at-else at-tapped), rw (limit-reads (p .sent), limit-reads (p .arriving)) at (at-tapped .tapped .ensures), c .store .ensures)
+    let read = at-tapped .before in
+    (calm (at-else read), at-tapped .tapped .ensures ∙ ap₂ _+ℤ_ (at-sent read .wave-at .ensures) (read .wave-at2 .ensures), c .store .ensures)
 
 pub settle-spec : {M : Type 1} → statement M
 settle-spec =
     tie.close
-    (tie.spec
-    (λ c κs. search needs)
-    returns
-    (λ c. omega (arith, port c .inside))
-    (λ c. port c .inside)
-    (λ c. omega (arith, port (c .before) .inside))
-    (λ c. port (c .before) .inside)
-    tapped-requires
-    store-requires
+    (tie.spec (λ c κs. search needs) returns (λ c κs. port (c .before) .inside) (λ c κs. port (c .before .before) .inside) tapped-requires store-requires
     returns-2)
