@@ -152,6 +152,15 @@ fn limits(mut t: Tally) -> Tally {
     t = call(t, r, carrying(0, 0, 0, 14), 0, 0, 12, 255);
     t = call(t, r, carrying(0, 2, 6, 15), 0, 0, 15, 6);
     t = call(t, r, carrying(1, 3, 0, 15), 0, 0, 12, 1);
+    t = call(
+        t,
+        make::with_version(r, 3),
+        carrying(1, 3, 0, 15),
+        0,
+        0,
+        3,
+        0,
+    );
     let left = carrying(0, 1, 0, 0);
     t = call(t, r, left, 2, 4, 0, 0);
     t = call(t, r, left, 2, 3, 16, 0);

@@ -34,6 +34,7 @@ pub fn cases(mut t: Tally) -> Tally {
     t = answered(t, answer, 0, 0);
     t = read(t, &file, 0, 0);
     t = written_again(t, &file);
+    t = second_version(t);
     refused_writes(unused(spoiled(checks(t, file), file), file))
 }
 
@@ -52,6 +53,13 @@ fn written_again(mut t: Tally, file: &[u8]) -> Tally {
     t = answered(t, answer, 0, 0);
     labels::named(t);
     counted(t, same(file, &again))
+}
+
+fn second_version(mut t: Tally) -> Tally {
+    let mut file = [0u8; FILE_LENGTH];
+    let answer = file::write(make::with_version(case_1(), 2), &mut file);
+    t = answered(t, answer, 0, 0);
+    written_again(t, &file)
 }
 
 // A block 2 of zeros, but for the lowest byte of its check.
@@ -124,7 +132,8 @@ fn resealed(t: Tally, file: File, block: usize, place: usize, number: u64) -> Ta
 
 // The version, and bytes that should be as they are: in the heading and behind it, in the rows, and in the columns.
 fn unused(mut t: Tally, file: File) -> Tally {
-    t = resealed(t, file, 0, 0, 3);
+    t = resealed(t, file, 0, 0, 0);
+    t = resealed(t, file, 0, 1, 3);
     t = resealed(t, file, 0, 4, 4);
     t = resealed(t, file, 0, 6, 4);
     t = resealed(t, file, 0, 12, 4);
@@ -147,8 +156,13 @@ fn refused_writes(mut t: Tally) -> Tally {
     let answer = file::write(case_1(), &mut small);
     t = answered(t, answer, 1, 0);
     t = read(t, &small, 1, 0);
+    let third = make::with_version(case_1(), 3);
+    let answer = file::write(third, &mut small);
+    t = answered(t, answer, 1, 0);
     let before = [7u8; FILE_LENGTH];
     let mut after = before;
+    let answer = file::write(third, &mut after);
+    t = answered(t, answer, 3, 0);
     let answer = file::write(make::with_rate(case_1(), 7999), &mut after);
     t = answered(t, answer, 5, 0);
     labels::named(t);

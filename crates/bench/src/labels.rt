@@ -7,6 +7,11 @@ pub fn named(t: Tally) {
     show::line(
         b"case 1, input 1000 ohms and resistor 3000 ohms in parallel
 case 6, the same two in series
+version 0
+version 2
+version 3
+version 65535
+version 3 and row count 32
 case 12, row count 32
 row count 31
 row count 1
@@ -77,6 +82,13 @@ left of the first column, the first slope 1
 left of the first column, the first slope -1
 past a column at 67108863 microvolts, the last slope 1
 past a column at 67108863 microvolts, the last slope -1
+version 2, u is 3/4
+version 2, u is -3/4
+version 2, u is 599 1/4
+version 1, b1 is 450 1/2, tapped at the first child
+version 1, b1 is 450 1/2, tapped at the second child
+version 2, b1 is 450 1/2, tapped at the first child
+version 2, b1 is 450 1/2, tapped at the second child
 case 12
 case 12
 past the lower limit
@@ -97,6 +109,7 @@ case 8, samples 4000 and 16777217
 an inductor
 an inductor
 a resistor
+a resistor in version 3
 two samples and room for one
 no sample and room for one
 two samples and room for one, rate 7999
@@ -104,10 +117,14 @@ file of case 1, written
 file of case 1, read back
 file of case 1, written again
 file of case 1, written again: the same bytes
+file of case 1 in version 2, written
+file of case 1 in version 2, written again
+file of case 1 in version 2, written again: the same bytes
 case 11, a block 2 of zeros with check 2
 case 11, a block 2 of zeros with check 3
 file of case 1, each 17th byte in turn one up: refused 2 at its block
-version 2
+version 2, in a file
+version 257
 curve kind 3
 a byte between column count and rate
 a byte between rate and resistance
@@ -124,6 +141,8 @@ a column past the column count, in a file
 a byte behind the columns
 written to 1535 bytes
 1535 bytes read
+written with version 3 to 1535 bytes
+written with version 3
 written with rate 7999
 written with rate 7999: the buffer is as it was
 case 8, samples 4000 and 0 fed whole
@@ -141,6 +160,7 @@ three bytes left over
 a held refusal of 14
 a held refusal of 15
 three bytes left over and a wave in a resistor
+the same in version 3
 a sample and room for one output
 a sample and room for three bytes
 a sample and room for two outputs

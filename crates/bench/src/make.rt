@@ -1,4 +1,4 @@
-// The bench's circuits. Every one has the rate 48,000 and curve K, a pair, unless it is said. Row 0 is an input, and each leaf after it is
+// The bench's circuits. Every one has version 1, the rate 48,000 and curve K, a pair, unless it is said. Row 0 is an input, and each leaf after it is
 // joined with all that is before it.
 ghost use Prim.Native.Nat.{_+_, _<_};
 ghost use Rattle.circuit.specs.Record.{rowLimit};
@@ -70,6 +70,7 @@ fn curve(from: usize, x: i32, y: i32, next_x: i32, next_y: i32) -> Columns
 fn circuit(rows: Rows, count: u8, tap: u8, resistance: f64) -> Record {
     let columns = curve(1, 1000, 1000, 2000, 0);
     Record {
+        version: 1,
         rate: 48000,
         count,
         tap,
@@ -108,9 +109,13 @@ pub fn case_6() -> Record {
     series(1000.0, 3000.0, 4000.0)
 }
 
-// Case 1 with another leaf in the place of its resistor.
+// Case 1 and case 6 with another leaf in the place of their resistor.
 pub fn case_1_with(second: Element) -> Record {
     two(1000.0, Join::Parallel, second, 750.0)
+}
+
+pub fn case_6_with(second: Element) -> Record {
+    two(1000.0, Join::Series, second, 4000.0)
 }
 
 pub fn case_8() -> Record {
@@ -144,6 +149,7 @@ pub fn alone() -> Record {
 // The same with a single of two columns.
 pub fn single(x: i32, y: i32, next_x: i32, next_y: i32) -> Record {
     Record {
+        version: 1,
         rate: 48000,
         count: 1,
         tap: TOP,
@@ -176,6 +182,11 @@ pub fn longest() -> Record {
         j += 2;
     }
     circuit(rows, ROWS as u8, TOP, 16000.0)
+}
+
+pub fn with_version(mut r: Record, version: u16) -> Record {
+    r.version = version;
+    r
 }
 
 pub fn with_rate(mut r: Record, rate: u32) -> Record {

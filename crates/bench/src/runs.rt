@@ -41,6 +41,7 @@ fn limits(mut t: Tally) -> Tally {
     t = sample(t, r, 67108865, 0, 12, 1, BEFORE, 67108865);
     let r = case_1();
     t = sample(t, r, 1, 0, 12, 1, BEFORE, 1);
+    t = sample(t, make::with_version(r, 3), 1, 0, 3, 0, BEFORE, 1);
     t = length(t, r, 2, 13);
     t = length(t, r, 0, 13);
     length(t, make::with_rate(r, 7999), 2, 5)

@@ -1,4 +1,5 @@
-// One sample from a fresh state: cases 2 to 7, 9 and 12, each tap, each piece of a curve, and both sides of each limit of a sample.
+// One sample from a fresh state: cases 2 to 7, 9 and 12, each tap, each piece of a curve, both versions, and both sides of each limit of a
+// sample.
 use crate::labels;
 use crate::make;
 use crate::make::case_1;
@@ -8,6 +9,7 @@ use crate::show::BEFORE;
 use crate::tally::Tally;
 use crate::tally::counted;
 use crate::work::work;
+use circuit::Element;
 use circuit::Record;
 use circuit::TOP;
 
@@ -33,6 +35,7 @@ pub fn cases(mut t: Tally) -> Tally {
     t = past_last(t);
     t = left_of_first(t);
     t = longest(t);
+    t = versions(t);
     limits(t)
 }
 
@@ -93,6 +96,23 @@ fn longest(mut t: Tally) -> Tally {
         134217728,
     );
     sample(t, make::with_column(r, 67108863, -67108863), 16777216, 0, 0)
+}
+
+// What version 2 rounds. With a source of 600 microvolts u is 599 1/4 in parallel, and h alone toward zero would make it 600; in series b1 is
+// 450 1/2, and b2 would be 448 without its rounding.
+fn versions(mut t: Tally) -> Tally {
+    let r = make::with_version(case_1(), 2);
+    t = sample(t, r, 1, 0, 0);
+    t = sample(t, r, -1, 0, 0);
+    let source = Element::Steady(3000.0, 600);
+    let r = make::with_version(make::case_1_with(source), 2);
+    t = sample(t, r, 599, 0, 1198);
+    let r = make::case_6_with(source);
+    t = sample(t, make::with_tap(r, 0), 501, 0, 952);
+    t = sample(t, r, 501, 0, 1048);
+    let r = make::with_version(r, 2);
+    t = sample(t, make::with_tap(r, 0), 501, 0, 951);
+    sample(t, r, 501, 0, 1049)
 }
 
 // Of a sample, and of a wave at the diode.

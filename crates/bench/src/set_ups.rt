@@ -14,7 +14,7 @@ use circuit::Record;
 pub fn cases(mut t: Tally) -> Tally {
     t = prepared(t, case_1(), 12582912, 750.0);
     t = prepared(t, case_6(), 4194304, 4000.0);
-    curves(leaves(counts(t)))
+    curves(leaves(counts(versions(t))))
 }
 
 // The ratio and the port resistance that row 2 is prepared with.
@@ -35,6 +35,16 @@ fn judged(t: Tally, r: Record, number: u64, place: u64) -> Tally {
     let made = setup::set_up(r);
     let answer = made.answer;
     answered(t, answer, number, place)
+}
+
+// The last of them with a row count of 32, which is 4 in version 2.
+fn versions(mut t: Tally) -> Tally {
+    let r = case_1();
+    t = judged(t, make::with_version(r, 0), 3, 0);
+    t = judged(t, make::with_version(r, 2), 0, 0);
+    t = judged(t, make::with_version(r, 3), 3, 0);
+    t = judged(t, make::with_version(r, 65535), 3, 0);
+    judged(t, make::with_version(make::with_count(r, 32), 3), 3, 0)
 }
 
 // Row counts, column counts, what lies past them, and rates.

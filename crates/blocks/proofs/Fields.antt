@@ -42,7 +42,7 @@ module _ (d : List ℕ) (at : ℕ) (h : at ≤ length d) where
 
 -- the heading's fields, with the zeros between them
 pub heading-placed : (r : Record) (kind bits : ℕ) (m₁ m₂ m₃ m₄ m₅ m₆ m₇ : List ℕ) → kind ≡ kindNumber (r .kind) → bits ≡ toBits binary64 (r .resistance)
-    → m₁ ≡ placed (zeros blockLength) 0 (bytes 2 1)
+    → m₁ ≡ placed (zeros blockLength) 0 (bytes 2 (r .version))
     → m₂ ≡ placed m₁ 2 (bytes 1 (r .count))
     → m₃ ≡ placed m₂ 3 (bytes 1 (r .tap))
     → m₄ ≡ placed m₃ 4 (bytes 1 kind)
@@ -58,7 +58,7 @@ heading-placed r kind bits m₁ m₂ m₃ m₄ m₅ m₆ m₇ ek eb e₁ e₂ e�
     (begun-gap
     (next 5 1 (r .width) m₅ refl e₅
     (next 4 1 (kindNumber (r .kind)) m₄ refl (e₄ ∙ ap (λ (q : ℕ). placed m₃ 4 (bytes 1 q)) ek)
-    (next 3 1 (r .tap) m₃ refl e₃ (next 2 1 (r .count) m₂ refl e₂ (first-field (zeros blockLength) 0 zero-le 2 1 m₁ e₁)))))
+    (next 3 1 (r .tap) m₃ refl e₃ (next 2 1 (r .count) m₂ refl e₂ (first-field (zeros blockLength) 0 zero-le 2 (r .version) m₁ e₁)))))
     2 (omega arith)))
     4 (omega arith))
   where

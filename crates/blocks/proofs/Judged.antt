@@ -7,17 +7,22 @@ use mathlib.Core.Bool.{true, false, not}
 use mathlib.Core.List.{List, [], _∷_}
 use lib.Dec.{lit<}
 use lib.ListN.{length}
+use Rattle.circuit.specs.Counting.{between}
 use Rattle.circuit.specs.Numbers.{report, done, Rule, rule, judge, unless, passes}
-use Rattle.circuit.specs.File.{fileLength, blockLength, checkPlace, numberAt, checkOf, fileLengthRule, blockAt, wrongCheck, checkRule, versionRule, clearFile, unusedBytesRule, fileRules}
+use Rattle.circuit.specs.Record.{lastVersion, versionRule}
+use Rattle.circuit.specs.File.{fileLength, blockLength, checkPlace, numberAt, checkOf, fileLengthRule, blockAt, wrongCheck, checkRule, clearFile, unusedBytesRule, fileRules}
 use Rattle.laws.proofs.Counting.{unless-passes, lowest-passes, passes-lowest}
 use Rattle.laws.proofs.Judging.{Pass, Numbered, judge-pass, judge-fail, judge-at, judge-stop, pass-done, zero-pass}
 
--- the first two rules, and the first three
+-- the third rule; the first two rules, and the first three
+abbrev versioned : Rule (List ℕ)
+versioned = rule 3 (λ s. versionRule (numberAt 2 0 s))
+
 abbrev checkedRules : List (Rule (List ℕ))
 checkedRules = rule 1 fileLengthRule ∷ rule 2 checkRule ∷ []
 
 abbrev versionedRules : List (Rule (List ℕ))
-versionedRules = rule 1 fileLengthRule ∷ rule 2 checkRule ∷ rule 3 versionRule ∷ []
+versionedRules = rule 1 fileLengthRule ∷ rule 2 checkRule ∷ versioned ∷ []
 
 pub file-numbered : Numbered fileRules
 unfolding fileRules
@@ -37,21 +42,20 @@ module _ (s : List ℕ) where
 
     pub checks-stop : (judge (rule 2 checkRule ∷ []) s .number ≡ 0 → ⊥) → judge fileRules s ≡ judge (rule 2 checkRule ∷ []) s
     unfolding fileRules
-    checks-stop e = judge-pass _ _ s long-passes ∙ judge-stop (rule 2 checkRule ∷ []) (rule 3 versionRule ∷ rule 4 unusedBytesRule ∷ []) s (omega arith)
+    checks-stop e = judge-pass _ _ s long-passes ∙ judge-stop (rule 2 checkRule ∷ []) (versioned ∷ rule 4 unusedBytesRule ∷ []) s (omega arith)
 
     module _ (right : judge (rule 2 checkRule ∷ []) s .number ≡ 0) where
       checks-pass : Pass checkedRules s
       checks-pass = (long-passes, zero-pass (rule 2 checkRule ∷ []) s (lit< tt, tt) right)
 
-      pub version-stop : (numberAt 2 0 s ≡ 1 → ⊥) → judge fileRules s ≡ report 3 0
+      pub version-stop : between 1 lastVersion (numberAt 2 0 s) ≡ false → judge fileRules s ≡ report 3 0
       unfolding fileRules versionRule
-      version-stop e =
-          judge-at checkedRules (rule 3 versionRule) (rule 4 unusedBytesRule ∷ []) s 0 checks-pass (ap (λ b. unless b 0) (ne-eqb _ _ e))
+      version-stop e = judge-at checkedRules versioned (rule 4 unusedBytesRule ∷ []) s 0 checks-pass (ap (λ b. unless b 0) e)
 
-      module _ (first : numberAt 2 0 s ≡ 1) where
+      module _ (listed : between 1 lastVersion (numberAt 2 0 s) ≡ true) where
         version-pass : Pass versionedRules s
         unfolding versionRule
-        version-pass = (checks-pass .0, (checks-pass .1 .0, (ap (λ b. unless b 0) (eq-eqb _ _ first), tt)))
+        version-pass = (checks-pass .0, (checks-pass .1 .0, (ap (λ b. unless b 0) listed, tt)))
 
         pub unused-stop : clearFile s ≡ false → judge fileRules s ≡ report 4 0
         unfolding fileRules unusedBytesRule
@@ -69,28 +73,28 @@ judged-length s e = eqb-true (length s) fileLength (unless-passes _ 0 (zero-pass
 pub record Sound (s : List ℕ) : Type 0 where
   pub long : length s ≡ fileLength
   pub right : (k : ℕ) → k < length s / blockLength → numberAt 4 checkPlace (blockAt k s) ≡ checkOf k (blockAt k s)
-  pub version : numberAt 2 0 s ≡ 1
+  pub version : versionRule (numberAt 2 0 s) ≡ passes
   pub clear : clearFile s ≡ true
 
 pub judged-sound : (s : List ℕ) → judge fileRules s .number ≡ 0 → Sound s
-unfolding fileRules fileLengthRule checkRule versionRule unusedBytesRule
+unfolding fileRules fileLengthRule checkRule unusedBytesRule
 judged-sound s e =
     let p = zero-pass fileRules s file-numbered e in
     record {
       long = judged-length s e;
       right = λ k h. eqb-true _ _ (not-false _ (lowest-passes (wrongCheck s) _ (p .1 .0) k h));
-      version = eqb-true _ _ (unless-passes _ 0 (p .1 .1 .0));
+      version = p .1 .1 .0;
       clear = unless-passes _ 0 (p .1 .1 .1 .0);
     }
 
 pub sound-judged : (s : List ℕ) → Sound s → judge fileRules s .number ≡ 0
-unfolding fileRules fileLengthRule checkRule versionRule unusedBytesRule
+unfolding fileRules fileLengthRule checkRule unusedBytesRule
 sound-judged s h =
     ap (λ n. n .number)
     (pass-done fileRules s (
       ap (λ b. unless b 0) (eq-eqb _ _ (h .long)),
       (
         passes-lowest (wrongCheck s) _ (λ k l. ap not (eq-eqb _ _ (h .right k l))),
-        (ap (λ b. unless b 0) (eq-eqb _ _ (h .version)), (ap (λ b. unless b 0) (h .clear), tt)),
+        (h .version, (ap (λ b. unless b 0) (h .clear), tt)),
       ),
     ))

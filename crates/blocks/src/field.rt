@@ -31,6 +31,13 @@ pub(crate) fn byte(s: &[u8], at: usize) -> u8
     number(s, at, 1) as u8
 }
 
+pub(crate) fn pair(s: &[u8], at: usize) -> u16
+    requires { ⌜ at + 2 ≤ length (now s) ⌝ }
+    ensures { λ r. ⌜ r ≡ numberAt 2 at (now (s .entry)) ⌝ }
+{
+    number(s, at, 2) as u16
+}
+
 pub(crate) fn word(s: &[u8], at: usize) -> u32
     requires { ⌜ at + 4 ≤ length (now s) ⌝ }
     ensures { λ r. ⌜ r ≡ numberAt 4 at (now (s .entry)) ⌝ }

@@ -11,9 +11,6 @@ ghost use lib.ListN.{length};
 ghost use Rattle.circuit.specs.File.{fileLength, kindNumber, kindOf, heading, recordOf};
 ghost use Rattle.blocks.specs.Placing.{begun};
 
-// The only version so far.
-pub(crate) const VERSION: u64 = 1;
-
 // Where the fields end, and how many bytes are left between them and the check.
 pub(crate) const END: usize = 24;
 
@@ -43,11 +40,12 @@ fn kind_number(kind: CurveKind) -> u8
 pub(crate) fn heading_block(r: Record) -> [u8; BLOCK_LENGTH]
     ensures { λ b. ⌜ b ≡ begun (heading r) ⌝ }
 {
+    let version = r.version;
     let kind = r.kind;
     let number = kind_number(kind);
     let resistance = field::bits(r.resistance);
     let mut b = [0u8; BLOCK_LENGTH];
-    field::put(&mut b, 0, 2, VERSION);
+    field::put(&mut b, 0, 2, version as u64);
     field::put(&mut b, 2, 1, r.count as u64);
     field::put(&mut b, 3, 1, r.tap as u64);
     field::put(&mut b, 4, 1, number as u64);
@@ -61,6 +59,7 @@ pub(crate) fn record_of(s: &[u8]) -> Record
     requires { ⌜ length (now s) ≡ fileLength ⌝ }
     ensures { λ r. ⌜ r ≡ recordOf (now (s .entry)) ⌝ }
 {
+    let version = field::pair(s, 0);
     let rate = field::word(s, 8);
     let count = field::byte(s, 2);
     let tap = field::byte(s, 3);
@@ -70,6 +69,7 @@ pub(crate) fn record_of(s: &[u8]) -> Record
     let columns = column::columns(s);
     let resistance = field::float(s, 16);
     Record {
+        version,
         rate,
         count,
         tap,

@@ -45,6 +45,7 @@ pub fn no_record() -> Record
     let kind = CurveKind::Unset;
     let columns = [Column { x: 0, y: 0 }; COLUMNS];
     Record {
+        version: 0,
         rate: 0,
         count: 0,
         tap: 0,

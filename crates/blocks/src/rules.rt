@@ -8,6 +8,7 @@ use circuit::Answer;
 use circuit::BLOCK_LENGTH;
 use circuit::FILE_LENGTH;
 use circuit::ROWS_PER_BLOCK;
+use circuit::is_version;
 ghost use mathlib.Core.Path.{_≡_};
 ghost use mathlib.Core.List.{[], _∷_};
 ghost use Prim.Native.Nat.{_+_, _/_, _≤_, _<_};
@@ -98,12 +99,10 @@ pub(crate) fn judged(s: &[u8]) -> Answer
     if wrong.number() != 0 {
         return wrong;
     }
-    if field::number(s, 0, 2) != heading::VERSION {
+    let listed = is_version(field::pair(s, 0));
+    let clear = is_clear_file(s);
+    if !listed {
         return Answer::Version;
     }
-    if is_clear_file(s) {
-        Answer::Done
-    } else {
-        Answer::Form
-    }
+    if clear { Answer::Done } else { Answer::Form }
 }

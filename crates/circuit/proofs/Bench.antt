@@ -16,11 +16,12 @@ use Rattle.circuit.specs.Sample.{unrounded, output}
 use Rattle.circuit.specs.Run.{Ran}
 use Rattle.circuit.specs.File.{blockLength, bytes, checkOf, zeros}
 use Rattle.circuit.specs.Knee.{knob, withKnee}
+use Rattle.circuit.specs.declared.Join.{Join}
 use Rattle.circuit.specs.declared.Join.the-variants.{Series, Parallel}
 use Rattle.circuit.specs.declared.CurveKind.the-variants.{Single, Pair}
 use Rattle.circuit.specs.declared.Record.{Record}
 use Rattle.circuit.proofs.Working.{working}
-use Rattle.circuit.proofs.Circuits.{minus, ohms, column, case1, case6, case8, capacitive, curved, sourced, fresh}
+use Rattle.circuit.proofs.Circuits.{minus, ohms, column, case1, case6, case8, capacitive, curved, sourced, versioned, fresh}
 
 -- what a case finds: the top's ratio and port resistance; a run's report, how many samples it has done, its outputs in half microvolts and
 -- what row 1 stores; the diode's answers; whether something is so; a report; a check
@@ -114,6 +115,31 @@ shortcuts =
 shortcuts-avoided : map (λ (l : Line). l .found) shortcuts ≡ map (λ (l : Line). l .paper) shortcuts
 unfolding working shortcuts answered played fresh
 shortcuts-avoided = ap₂ _∷_ refl refl
+
+-- ---- request 5: what version 2 rounds, beside version 1 and its shortcuts; each first in version 1
+
+-- by 3/4 in parallel and by 1/4 in series
+version : ℕ → Join → ℕ → Record
+version v k tap = versioned v (sourced k tap (elim k [ Series ↦ ohms 4000 | Parallel ↦ ohms 750 ]))
+
+versions : List Line
+versions =
+    -- 3/4 and −3/4 of a microvolt
+    case 0 (played (fresh case1 (pos 1 ∷ minus 1 ∷ []))) (plainly (pos 0 ∷ minus 2 ∷ []) (pos 0))
+    ∷ case 0 (played (fresh (versioned 2 case1) (pos 1 ∷ minus 1 ∷ []))) (plainly (pos 0 ∷ pos 0 ∷ []) (pos 0))
+    -- u is 599 1/4: h alone toward zero would give 600
+    ∷ case 0 (played (fresh (version 1 Parallel 1) (pos 599 ∷ []))) (plainly (pos 1198 ∷ []) (pos 0))
+    ∷ case 0 (played (fresh (version 2 Parallel 1) (pos 599 ∷ []))) (plainly (pos 1198 ∷ []) (pos 0))
+    -- b1 is 450 1/2 and a3 is −899: version 1 sends 451 and 448, and from an unrounded b1 the second child would get 448 too
+    ∷ case 0 (played (fresh (version 1 Series 0) (pos 501 ∷ []))) (plainly (pos 952 ∷ []) (pos 0))
+    ∷ case 0 (played (fresh (version 1 Series 1) (pos 501 ∷ []))) (plainly (pos 1048 ∷ []) (pos 0))
+    ∷ case 0 (played (fresh (version 2 Series 0) (pos 501 ∷ []))) (plainly (pos 951 ∷ []) (pos 0))
+    ∷ case 0 (played (fresh (version 2 Series 1) (pos 501 ∷ []))) (plainly (pos 1049 ∷ []) (pos 0))
+    ∷ []
+
+versions-told : map (λ (l : Line). l .found) versions ≡ map (λ (l : Line). l .paper) versions
+unfolding working versions version played plainly fresh
+versions-told = ap₂ _∷_ refl refl
 
 -- ---- operands: a sample with a wave from each child, tapped at either and at the top; a capacitor's sign; the last word of a check
 

@@ -53,8 +53,10 @@ abbrev rowsOf : List Part → List Row
 rowsOf [] = []
 rowsOf (p ∷ ps) = record { part = p } ∷ rowsOf ps
 
+-- of version 1
 abbrev pub circuit : List Part → ℕ → CurveKind → List Column → Float → Record
 circuit ps tap kind cs q = record {
+  version = 1;
   rate = 48000;
   count = length ps;
   tap = tap;
@@ -63,6 +65,20 @@ circuit ps tap kind cs q = record {
   width = length cs;
   columns = cs ++ replicate (columnLimit - length cs) (column (pos 0) (pos 0));
   resistance = q;
+}
+
+-- a record in another version
+abbrev pub versioned : ℕ → Record → Record
+versioned version r = record {
+  version = version;
+  rate = r .rate;
+  count = r .count;
+  tap = r .tap;
+  rows = r .rows;
+  kind = r .kind;
+  width = r .width;
+  columns = r .columns;
+  resistance = r .resistance;
 }
 
 -- ---- the bench's curve and circuits

@@ -1,5 +1,5 @@
--- Every number from 4 to 15, with its place, at an input that gets it, and beside a limit an input that just passes, worked out. Numbers 1 to 3
--- are in crates/laws/proofs/Files.antt.
+-- Every number from 3 to 15, with its place, at an input that gets it, and beside a limit an input that just passes, worked out. Numbers 1 to 3
+-- of a file are in crates/laws/proofs/Files.antt.
 use Prim.Native.Nat.{ℕ, _-_}
 use mathlib.Core.Path.{_≡_, refl, ap₂}
 use mathlib.Core.Bool.{Bool, true, false}
@@ -20,13 +20,14 @@ use Rattle.circuit.specs.declared.Column.{Column}
 use Rattle.circuit.specs.declared.CurveKind.the-variants.{Unset, Single, Pair}
 use Rattle.circuit.specs.declared.Record.{Record}
 use Rattle.circuit.proofs.Working.{working}
-use Rattle.circuit.proofs.Circuits.{minus, ohms, input, resistor, inductor, steady, joins, column, circuit, curveK, case1, case8, curved, calling, fresh}
+use Rattle.circuit.proofs.Circuits.{minus, ohms, input, resistor, inductor, steady, joins, column, circuit, versioned, curveK, case1, case8, curved, calling, fresh}
 
 -- ---- changed records
 
 -- case 1 with another rate and other counts, and with a column after the curve's
 case1With : ℕ → ℕ → ℕ → List Column → Record
 case1With rate count width more = record {
+  version = 1;
   rate = rate;
   count = count;
   tap = case1 .tap;
@@ -115,10 +116,15 @@ rows-spoiled :
 unfolding working row
 rows-spoiled = refl
 
--- numbers 4 to 11 of a record
+-- numbers 3 to 11 of a record
 records : List Line
 records =
-    gives (setUpReport (counting 32)) (report 4 0)
+    gives (setUpReport (versioned 0 case1)) (report 3 0)
+    ∷ gives (setUpReport (versioned 2 case1)) done
+    ∷ gives (setUpReport (versioned 3 case1)) (report 3 0)
+    ∷ gives (setUpReport (versioned 3 (counting 32))) (report 3 0)
+    ∷ gives (setUpReport (versioned 2 (counting 32))) (report 4 0)
+    ∷ gives (setUpReport (counting 32)) (report 4 0)
     ∷ gives (setUpReport (counting 0)) (report 4 0)
     ∷ gives (setUpReport (counting 2)) (report 4 0)
     ∷ gives (setUpReport (parts (input (ohms 1000) ∷ Blank ∷ joins Parallel 0 1 ∷ []) 0 (ohms 750))) (report 4 0)
@@ -184,11 +190,12 @@ records-refused : map (λ (l : Line). l .found) records ≡ map (λ (l : Line). 
 unfolding working records case1With atRate counting level parts pair
 records-refused = ap₂ _∷_ refl refl
 
--- numbers 12 to 15 of a run
+-- numbers 3 and 12 to 15 of a run
 runs : List Line
 runs =
+    gives (ran (calling (versioned 3 case1) (set freshWaves 1 (pos 1)) []) .handedBack) (report 3 0)
     -- a wave at a resistor, a reactive row's past the limit and at it, a blank row's
-    gives (ran (calling case1 (set freshWaves 1 (pos 1)) []) .handedBack) (report 12 1)
+    ∷ gives (ran (calling case1 (set freshWaves 1 (pos 1)) []) .handedBack) (report 12 1)
     ∷ gives (ran (calling case8 (set freshWaves 1 (minus 67108865)) []) .handedBack) (report 12 1)
     ∷ gives (ran (calling case8 (set freshWaves 1 (minus 67108864)) []) .handedBack) done
     ∷ gives (ran (calling case8 (set freshWaves 1 (pos 67108865)) []) .handedBack) (report 12 1)

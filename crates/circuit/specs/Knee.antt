@@ -75,6 +75,7 @@ builtColumns b = ifBuilt b (table (kneeColumn b) columnLimit) (replicate columnL
 
 abbrev pub withCurve : Record → CurveKind → ℕ → List Column → Record
 withCurve r kind width columns = record {
+  version = r .version;
   rate = r .rate;
   count = r .count;
   tap = r .tap;

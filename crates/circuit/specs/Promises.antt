@@ -43,7 +43,7 @@ pub record Finds (r : Record) (p : Ports) : Type 0 where
   pub resistances : p .resistances ≡ resistancesOf (setUpRows r)
   pub ratios : p .ratios ≡ ratiosOf (setUpRows r)
 
--- 4 to 12 of a circuit with its stored waves, and what set-up finds
+-- 3 to 12 of a circuit with its stored waves, and what set-up finds
 pub record Charges (k : Charged) (p : Ports) : Type 0 where
   pub number : handed (p .answer) ≡ judge chargedRules k
   pub resistances : p .resistances ≡ resistancesOf (setUpRows (k .circuit))

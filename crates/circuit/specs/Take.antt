@@ -73,7 +73,7 @@ carriedRule c = unless (leb (c .count) leftLimit && (eqb (c .held) 0 || eqb (c .
 unfoldable pub heldRule : Carried → Verdict
 heldRule c = unless (eqb (c .held) 0) (c .done)
 
--- 4 to 12, and the refusal that is held
+-- 3 to 12, and the refusal that is held
 unfoldable pub takeRules : List (Rule UnderWay)
 takeRules = of stored chargedRules ++ (rule 12 (λ t. carriedRule (t .carried)) ∷ rule 15 (λ t. heldRule (t .carried)) ∷ [])
 

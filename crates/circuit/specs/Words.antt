@@ -9,7 +9,7 @@ unfoldable pub meaning : Answer → List ℕ
 meaning Done = text "done\n"
 meaning Length = text "the file is not 1536 bytes\n"
 meaning (Check block) = text "a check is wrong; the place is the lowest block\n"
-meaning Version = text "the version is not 1\n"
+meaning Version = text "the version is neither 1 nor 2\n"
 meaning Form = text "a count, kind, blank row or column, or unused byte is against the rules\n"
 meaning Rate = text "the rate is outside its limits\n"
 meaning (Tree row) = text "a child is not lower than its adaptor, or a row is not used exactly once; the place is the row, or 255 for the input or the tap\n"

@@ -7,9 +7,9 @@ ghost use mathlib.Core.Bool.{cond};
 ghost use mathlib.Core.List.{[], _∷_};
 ghost use lib.Dec.{eqb};
 ghost use lib.IntN.{natAbs};
-ghost use Rattle.circuit.specs.Counting.{within};
+ghost use Rattle.circuit.specs.Counting.{between, within};
 ghost use Rattle.circuit.specs.Numbers.{handed};
-ghost use Rattle.circuit.specs.Record.{sourceLimit, isLeaf, isInput};
+ghost use Rattle.circuit.specs.Record.{lastVersion, sourceLimit, isLeaf, isInput};
 ghost use Rattle.circuit.specs.SetUp.{nothing};
 ghost use Rattle.circuit.specs.Curve.{waveLimit};
 ghost use Rattle.circuit.specs.Run.{isReactive};
@@ -20,6 +20,11 @@ ghost use Rattle.circuit.specs.Take.{signed};
 pub const ROWS: usize = 31;
 
 pub const COLUMNS: usize = 62;
+
+// The versions of a file, from 1 on. The first rounds a wave down, and every later one toward zero.
+pub const ROUNDED_DOWN: u16 = 1;
+
+pub const LAST_VERSION: u16 = 2;
 
 // The rate, in whole hertz.
 pub const LOWEST_RATE: u32 = 8000;
@@ -153,6 +158,8 @@ pub enum CurveKind {
 }
 
 pub struct Record {
+    // of its file, and how its waves are rounded
+    pub version: u16,
     // whole hertz
     pub rate: u32,
     // how many rows are in use
@@ -358,6 +365,12 @@ pub struct Built {
     pub kind: CurveKind,
     pub width: u8,
     pub columns: [Column; COLUMNS],
+}
+
+pub fn is_version(version: u16) -> bool
+    ensures { λ b. ⌜ b ≡ between 1 lastVersion version ⌝ }
+{
+    (1 <= version) & (version <= LAST_VERSION)
 }
 
 // Whether microvolts keep the limit of a steady source and of a sample.

@@ -14,7 +14,7 @@ use Rattle.whole.specs.Order.{Abs, abs-as}
 use Rattle.circuit.specs.Record.{partAt, leaf, treeAt, treeOf, lastRow}
 use Rattle.circuit.specs.SetUp.{ratioAt}
 use Rattle.circuit.specs.Curve.{waveLimit}
-use Rattle.circuit.specs.Sample.{rounded, reach, holds, storedAt}
+use Rattle.circuit.specs.Sample.{roundingOf, rounded, reach, holds, storedAt}
 use Rattle.circuit.specs.declared.Join.{Join}
 use Rattle.circuit.specs.declared.Adaptor.{Adaptor as Joint}
 use Rattle.circuit.specs.declared.Part.{Part}
@@ -22,7 +22,7 @@ use Rattle.circuit.specs.declared.Part.the-variants.{Blank, Leaf, Adaptor}
 use Rattle.circuit.specs.declared.Record.{Record}
 use Rattle.laws.specs.Accepted.{adaptorLimit}
 use Rattle.laws.proofs.Trees as Trees
-use Rattle.engine.specs.Wave.{downLimit, Beneath}
+use Rattle.engine.specs.Wave.{downLimit, way, Beneath}
 use Rattle.engine.specs.Plan.{floor, slotOf, topSlot, Joints}
 use Rattle.engine.specs.Sweep.{rises, Risen, Swept, Modest, Drops, Reached}
 use Rattle.engine.proofs.Range.{sendsTo, down-range}
@@ -49,7 +49,7 @@ modest-set {ds} m i {v} h = record {
 
 -- what the adaptor at row p sends to a side, with a3 from above
 abbrev falls : Record → (ℕ → ℤ) → ℕ → Joint → ℤ → Bool → ℤ
-falls r w p a a3 side = sendsTo side (a .join) (ratioAt r p) (rises r w (a .first)) (rises r w (a .second)) a3
+falls r w p a a3 side = sendsTo (roundingOf (r .version)) side (a .join) (ratioAt r p) (rises r w (a .first)) (rises r w (a .second)) a3
 
 -- its children hold that, and no more than can come past it and all adaptors with higher slots
 pub record Sent (r : Record) (w : ℕ → ℤ) (p : ℕ) (a : Joint) (ds : List ℤ) : Type 0 where
@@ -63,7 +63,7 @@ pub record Falling (r : Record) (w : ℕ → ℤ) (top : ℤ) (m : ℕ) (ds : Li
   pub quiet : Abs top waveLimit
   pub sent : (p : ℕ) (a : Joint) → p < r .count → partAt r p ≡ Adaptor a → m < slotOf r p → Sent r w p a ds
 
-pub falling-begun : {js : Joints} {n : ℕ} {ups ds : List ℤ} (d : Drops js n ups ds)
+pub falling-begun : {inward : Bool} {js : Joints} {n : ℕ} {ups ds : List ℤ} (d : Drops inward js n ups ds)
     → Falling (d .swept .circuit) (d .swept .wave) (storedAt ds (topSlot (d .swept .circuit))) (floor + n) ds
 falling-begun d = record {
   modest = d .modest;
@@ -74,8 +74,8 @@ falling-begun d = record {
 
 -- ---- the turn of the sweep down
 
-module _ {js : Joints} {n : ℕ} (s : Swept js n) where
-  open Swept s using (circuit as r, wave as w, accepted, slotted, all)
+module _ {inward : Bool} {js : Joints} {n : ℕ} (s : Swept inward js n) where
+  open Swept s using (circuit as r, wave as w, accepted, slotted, all, rounds)
 
   module _ {own : ℕ} {j : Join} {slots : Bool → ℕ} {g : ℤ} (t : Turn r own j slots g) {top : ℤ} {ds : List ℤ} (falling : Falling r w top own ds) where
     open Turn t using (row, joint, inside, part, place, join, child, ratio)
@@ -102,7 +102,7 @@ module _ {js : Joints} {n : ℕ} (s : Swept js n) where
       enough : own ≤ suc floor + n
       enough = omega (arith, own-slot s t, all)
 
-      pub beneath : {u : ℤ} → u ≡ storedAt ups own → Beneath j g (heard true) (heard false) u a3
+      pub beneath : {u : ℤ} → u ≡ storedAt ups own → Beneath inward j g (heard true) (heard false) u a3
       beneath e = record {
         below = below s t enough risen hears;
         sent = e ∙ ap (storedAt ups) (sym place) ∙ risen .right row inside (omega (arith, place, enough, own-slot s t, all))
@@ -111,19 +111,22 @@ module _ {js : Joints} {n : ℕ} (s : Swept js n) where
       }
 
       -- `v` is what is sent to each side
-      module _ (v : Bool → ℤ) (e : (side : Bool) → v side ≡ sendsTo side j (natAbs g) (heard true) (heard false) a3) where
+      module _ (v : Bool → ℤ) (e : (side : Bool) → v side ≡ sendsTo (way inward) side j (natAbs g) (heard true) (heard false) a3) where
         after : List ℤ
         after = set (set ds (slots true) (v true)) (slots false) (v false)
 
         sent-range : (side : Bool) → Abs (falls r w row joint (storedAt ds own) side) (downLimit (suc (topSlot r - own)))
         sent-range side =
-            abs-as (down-range (ratioAt r row) (accepted .ratio row) (rises-range s t _) (rises-range s t _) own-range side (joint .join)) refl
-            (omega (arith, both-few s t))
+            subst
+            (λ ρ. Abs (sendsTo ρ side (joint .join) (ratioAt r row) (rises r w (joint .first)) (rises r w (joint .second)) (storedAt ds own)) (downLimit (suc (topSlot r - own))))
+            (sym rounds)
+            (abs-as (down-range inward (ratioAt r row) (accepted .ratio row) (rises-range s t _) (rises-range s t _) own-range side (joint .join)) refl
+            (omega (arith, both-few s t)))
 
         sent-right : (side : Bool) → v side ≡ falls r w row joint (storedAt ds own) side
         sent-right side =
             let waves = wave-right s t enough risen hears in
-            e side ∙ rw (waves true, waves false, comes, join, ratio)
+            e side ∙ ap (λ ρ. sendsTo ρ side j (natAbs g) (heard true) (heard false) a3) (sym rounds) ∙ rw (waves true, waves false, comes, join, ratio)
 
         room : (side : Bool) → slots side < length ds
         room side = omega (arith, slot-inside s t side, falling .modest .long)
@@ -186,12 +189,12 @@ goes-on : (b : Bool) (f : ℕ → Bool) (x y : ℕ) → f x ≡ b → T (f x || 
 goes-on true f x y e h = subst T (sym e) tt
 goes-on false f x y e h = rw e at h
 
-module _ {js : Joints} {n : ℕ} (s : Swept js n) {top : ℤ} {m : ℕ} {ds : List ℤ} (low : m ≤ floor) (falling : Falling (s .circuit) (s .wave) top m ds)
+module _ {inward : Bool} {js : Joints} {n : ℕ} (s : Swept inward js n) {top : ℤ} {m : ℕ} {ds : List ℤ} (low : m ≤ floor) (falling : Falling (s .circuit) (s .wave) top m ds)
     (j : ℕ) where
   open Swept s using (circuit as r, wave as w, accepted, slotted)
 
   abbrev reaches : ℕ → ℤ → ℤ
-  reaches i a3 = reach rounded (ratioAt r) w (treeAt r i) a3 j
+  reaches i a3 = reach (rounded r) (ratioAt r) w (treeAt r i) a3 j
 
   -- the leaf has what reaches it from row i
   abbrev Goes : ℕ → Type 0
@@ -201,7 +204,7 @@ module _ {js : Joints} {n : ℕ} (s : Swept js n) {top : ℤ} {m : ℕ} {ds : Li
   unfolding holds
   at-leaf i t held =
       sym (ap (λ x. storedAt ds (slotOf r x)) (eqb→eq i j (subst (λ x. T (holds x j)) t held)))
-      ∙ sym (Trees.reach-leaf r (accepted .lower) i t rounded (ratioAt r) w (storedAt ds (slotOf r i)) j)
+      ∙ sym (Trees.reach-leaf r (accepted .lower) i t (rounded r) (ratioAt r) w (storedAt ds (slotOf r i)) j)
 
   by-side : (i : ℕ) (a : Joint) (a3 : ℤ) (side : Bool)
       → cond side (reaches (a .first) (falls r w i a a3 true)) (reaches (a .second) (falls r w i a a3 false))
@@ -220,13 +223,13 @@ module _ {js : Joints} {n : ℕ} (s : Swept js n) {top : ℤ} {m : ℕ} {ds : Li
       let sent = falling .sent i a l e (omega (arith, adaptor-slot slotted i l e)) in
       deeper (childOf a side) (child-under i (accepted .lower i) e side) (goes-on side (λ x. holds (treeAt r x) j) (a .first) (a .second) refl either)
       ∙ ap (reaches (childOf a side)) (sent .waves side)
-      ∙ sym (Trees.reach-adaptor r (accepted .lower) i a e rounded (ratioAt r) w a3 j ∙ by-side i a a3 side)
+      ∙ sym (Trees.reach-adaptor r (accepted .lower) i a e (rounded r) (ratioAt r) w a3 j ∙ by-side i a a3 side)
 
   all-down : (d i : ℕ) → i < d → i < r .count → Goes i
   all-down zero i h l = absurd (omega arith)
   all-down (suc d) i h l = one-down i l (λ c m. all-down d c (omega arith) (omega arith)) (partAt r i) refl
 
-pub reached : {js : Joints} {n : ℕ} (s : Swept js n) {m : ℕ} → m ≤ floor → {before ds : List ℤ}
+pub reached : {inward : Bool} {js : Joints} {n : ℕ} (s : Swept inward js n) {m : ℕ} → m ≤ floor → {before ds : List ℤ}
     → Falling (s .circuit) (s .wave) (storedAt before (topSlot (s .circuit))) m ds → Reached (s .circuit) (s .wave) before ds
 unfolding treeOf lastRow
 reached s low {ds = ds} falling =
@@ -237,5 +240,5 @@ reached s low {ds = ds} falling =
       above = falling .above;
       leaves = λ j e.
           all-down s low falling j (r .count) (r .count - 1) last last (s .accepted .held j (subst T (sym e) tt))
-          ∙ ap (λ a3. reach rounded (ratioAt r) (s .wave) (treeOf r) a3 j) (ap (storedAt ds) (s .slotted .last) ∙ falling .above);
+          ∙ ap (λ a3. reach (rounded r) (ratioAt r) (s .wave) (treeOf r) a3 j) (ap (storedAt ds) (s .slotted .last) ∙ falling .above);
     }

@@ -67,7 +67,7 @@ module _ {p : Plan} {r : Record} {ws : List ℤ} {x : ℤ} {above below : List �
   n = p .shape .adaptors
 
   abbrev arrivesAt : ℕ → ℤ
-  arrivesAt = arriving rounded (reflected r) r (storedAt ws) x
+  arrivesAt = arriving (rounded r) (reflected r) r (storedAt ws) x
 
   abbrev keepsLimit : ℕ → Bool
   keepsLimit j = not (isLeaf (partAt r j)) || within waveLimit (arrivesAt j)
@@ -92,16 +92,16 @@ module _ {p : Plan} {r : Record} {ws : List ℤ} {x : ℤ} {above below : List �
     keeps j true e = calm-leaf j e
 
     abbrev next : List ℤ
-    next = table (kept rounded (reflected r) r (storedAt ws) x) rowLimit
+    next = table (kept (rounded r) (reflected r) r (storedAt ws) x) rowLimit
 
-    finishes : sampled r ws x ≡ finished (output rounded (reflected r) r (storedAt ws) x) next
+    finishes : sampled r ws x ≡ finished (output (rounded r) (reflected r) r (storedAt ws) x) next
     unfolding sampled inLimit
     finishes = rw (h .source, h .calm, Counting.true-every keepsLimit rowLimit (λ j l. keeps j (isLeaf (partAt r j)) refl))
 
     -- ---- what the tap reads
 
     tapped : Port above below (p .shape .tap)
-        × (storedAt above (p .shape .tap) +ℤ storedAt below (p .shape .tap) ≡ output rounded (reflected r) r (storedAt ws) x)
+        × (storedAt above (p .shape .tap) +ℤ storedAt below (p .shape .tap) ≡ output (rounded r) (reflected r) r (storedAt ws) x)
     unfolding output
     tapped = elim (acc .tapped) [
       | inl q ↦ rw (h .fixed .tap, eq-eqb (r .tap) top q, at .last) (
@@ -138,18 +138,18 @@ module _ {p : Plan} {r : Record} {ws : List ℤ} {x : ℤ} {above below : List �
         }
 
     module _ {after : List ℤ} (k : Restored (p .turns) below (p .shape .reactive) above after) (j : ℕ) (l : j < r .count) where
-      next-at : storedAt next j ≡ partStores rounded (partAt r j) (arrivesAt j)
+      next-at : storedAt next j ≡ partStores (rounded r) (partAt r j) (arrivesAt j)
       unfolding kept
-      next-at = let short = acc .short in Counting.getD-table (kept rounded (reflected r) r (storedAt ws) x) rowLimit j (pos 0) (omega arith)
+      next-at = let short = acc .short in Counting.getD-table (kept (rounded r) (reflected r) r (storedAt ws) x) rowLimit j (pos 0) (omega arith)
 
       moves : slotOf r j < reactives r → isLeaf (partAt r j) ≡ true → storedAt after (slotOf r j) ≡ turnedBy (turnOf (partAt r j)) (arrivesAt j)
       moves low e = k .kept (slotOf r j) (rw (h .fixed .reactive) low) ∙ ap₂ turnedBy (h .fixed .turn j l) (h .arrives j e)
 
-      stays : reactives r ≤ slotOf r j → isLeaf (partAt r j) ≡ true → storedAt after (slotOf r j) ≡ sent rounded r (storedAt ws) x j
+      stays : reactives r ≤ slotOf r j → isLeaf (partAt r j) ≡ true → storedAt after (slotOf r j) ≡ sent (rounded r) r (storedAt ws) x j
       stays high e = k .rest (slotOf r j) (rw (h .fixed .reactive) high) ∙ h .sends j e
 
       sends-next : (y : Element) → partAt r j ≡ Leaf y → isInput (Leaf y) ≡ false
-          → storedAt after (slotOf r j) ≡ partSends rounded (pos 0) (storedAt next j) (Leaf y)
+          → storedAt after (slotOf r j) ≡ partSends (rounded r) (pos 0) (storedAt next j) (Leaf y)
       unfolding sent sends stores roleOf
       sends-next (Resistor v) e f = stays (at .other j l (ap roleOf e) .0) (ap isLeaf e) ∙ rw e
       sends-next (Capacitor v) e f = moves (at .reactive j l (ap roleOf e)) (ap isLeaf e) ∙ rw (next-at, e)
@@ -160,11 +160,11 @@ module _ {p : Plan} {r : Record} {ws : List ℤ} {x : ℤ} {above below : List �
     loaded-next : {after : List ℤ} → Restored (p .turns) below (p .shape .reactive) above after → Loaded r next after
     unfolding sent
     loaded-next k = record {
-      size = Counting.length-table (kept rounded (reflected r) r (storedAt ws) x) rowLimit;
+      size = Counting.length-table (kept (rounded r) (reflected r) r (storedAt ws) x) rowLimit;
       long = k .long ∙ h .still .long;
       sound = stored-sound r ws x _ next finishes;
       leaves = λ j l e f. let y = leaf-of (partAt r j) e in
-          sends-next k j l (y .0) (y .1) (sym (ap isInput (y .1)) ∙ f) ∙ sym (ap (partSends rounded (pos 0) (storedAt next j)) (y .1));
+          sends-next k j l (y .0) (y .1) (sym (ap isInput (y .1)) ∙ f) ∙ sym (ap (partSends (rounded r) (pos 0) (storedAt next j)) (y .1));
     }
 
   -- ---- the end

@@ -15,7 +15,7 @@ use Rattle.circuit.specs.Record.{rowIn, partAt, isLeaf, isInput, rowLimit}
 use Rattle.circuit.specs.Curve.{waveLimit}
 use Rattle.circuit.specs.Numbers.{done, judge, passes}
 use Rattle.circuit.specs.SetUp.{nothing, preparedRows, setUpReport, setUpRows}
-use Rattle.circuit.specs.Sample.{rounded, sends, partSends, sent, storedAt}
+use Rattle.circuit.specs.Sample.{Rounding, wholeWaves, roundingOf, rounded, sends, partSends, sent, storedAt}
 use Rattle.circuit.specs.Promises.{ratiosOf}
 use Rattle.circuit.specs.Run.{freshWaves, soundWave, storedWavesRule, Charged, chargedRules}
 use Rattle.circuit.specs.declared.Element.the-variants.{Resistor, Capacitor, Inductor, Input, Steady}
@@ -74,16 +74,16 @@ nought : (z : ℤ) → eqb (natAbs z) 0 ≡ true → (pos 0 ≡ z) × Abs z wave
 nought z e = let n = eqb-true (natAbs z) 0 e in (omega (zarith, abs-parts z), record { bound = omega arith })
 
 -- a sound wave z is taken out of the wave w that is sent from it
-sound-taken : (q : Part) (z w : ℤ) → soundWave q z ≡ true → (isLeaf q ≡ true → isInput q ≡ false → w ≡ partSends rounded (pos 0) z q)
+sound-taken : (ρ : Rounding) (q : Part) (z w : ℤ) → soundWave q z ≡ true → (isLeaf q ≡ true → isInput q ≡ false → w ≡ partSends (wholeWaves ρ) (pos 0) z q)
     → (partTaken q w ≡ z) × Abs z waveLimit
 unfolding sends
-sound-taken Blank z w h sent = nought z h
-sound-taken (Leaf (Resistor v)) z w h sent = nought z h
-sound-taken (Leaf (Capacitor v)) z w h sent = (sent refl refl, within-abs waveLimit z h)
-sound-taken (Leaf (Inductor v)) z w h sent = (sent refl refl, within-abs waveLimit z h)
-sound-taken (Leaf (Input v)) z w h sent = nought z h
-sound-taken (Leaf (Steady v m)) z w h sent = nought z h
-sound-taken (Adaptor a) z w h sent = nought z h
+sound-taken ρ Blank z w h sent = nought z h
+sound-taken ρ (Leaf (Resistor v)) z w h sent = nought z h
+sound-taken ρ (Leaf (Capacitor v)) z w h sent = (sent refl refl, within-abs waveLimit z h)
+sound-taken ρ (Leaf (Inductor v)) z w h sent = (sent refl refl, within-abs waveLimit z h)
+sound-taken ρ (Leaf (Input v)) z w h sent = nought z h
+sound-taken ρ (Leaf (Steady v m)) z w h sent = nought z h
+sound-taken ρ (Adaptor a) z w h sent = nought z h
 
 -- what `unload` takes out for row j
 abbrev pub outOf : List Row → List ℕ → List ℤ → ℕ → ℤ
@@ -92,14 +92,14 @@ outOf rows slots ups j = partTaken (rowIn rows j .part) (storedAt ups (getD slot
 module _ {rows : List Row} {count : ℕ} {slots : List ℕ} {r : Record} (h : Seated rows count slots r) where
   -- rows in their slots, as `load` fills them
   pub loaded : {ws ups : List ℤ} → length ws ≡ rowLimit → storedWavesRule r ws ≡ passes
-      → Placed (pos 0) slots (λ j. partSends rounded (pos 0) (storedAt ws j) (rowIn rows j .part)) count ups → Loaded r ws ups
+      → Placed (pos 0) slots (λ j. partSends (rounded r) (pos 0) (storedAt ws j) (rowIn rows j .part)) count ups → Loaded r ws ups
   unfolding sent storedWavesRule
   loaded {ws} size waves p = record {
     size = size;
     long = p .long;
     sound = λ j l. not-false _ (Counting.lowest-passes _ rowLimit waves j l);
     leaves = λ j l e f.
-        placed-all (λ k. partSends rounded (pos 0) (storedAt ws k)) p r (h .prepared) (h .all) (h .many) (h .layable) j (rw (h .many) at l);
+        placed-all (λ k. partSends (rounded r) (pos 0) (storedAt ws k)) p r (h .prepared) (h .all) (h .many) (h .layable) j (rw (h .many) at l);
   }
 
   module _ {ws ups : List ℤ} (l : Loaded r ws ups) where
@@ -108,7 +108,7 @@ module _ {rows : List Row} {count : ℕ} {slots : List ℕ} {r : Record} (h : Se
     taken j m =
         let n = rw (← h .many) at m in
         let short = h .layable .accepted .short in
-        rw (← h .all, h .layable .slot j n) (sound-taken (partAt r j) (storedAt ws j) _ (l .sound j (omega arith)) (l .leaves j n))
+        rw (← h .all, h .layable .slot j n) (sound-taken (roundingOf (r .version)) (partAt r j) (storedAt ws j) _ (l .sound j (omega arith)) (l .leaves j n))
 
     -- the rows after the last have none
     pub all-taken : {after : List ℤ} → length after ≡ rowLimit → ((j : ℕ) → j < count → storedAt after j ≡ outOf rows slots ups j)

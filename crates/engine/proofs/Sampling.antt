@@ -17,7 +17,7 @@ use Rattle.circuit.specs.Counting.{within}
 use Rattle.circuit.specs.Record.{partAt, isBlank, isLeaf, isInput, soundPart, sourceLimit, treeOf, lastRow}
 use Rattle.circuit.specs.SetUp.{ratioAt}
 use Rattle.circuit.specs.Curve.{waveLimit, reflected}
-use Rattle.circuit.specs.Sample.{rounded, sends, partSends, sent, risen, reach, arriving, inLimit, sampled, refused, storedAt}
+use Rattle.circuit.specs.Sample.{Rounding, wholeWaves, roundingOf, rounded, sends, partSends, sent, risen, reach, arriving, inLimit, sampled, refused, storedAt}
 use Rattle.circuit.specs.Run.{soundWave}
 use Rattle.circuit.specs.declared.Element.{Element}
 use Rattle.circuit.specs.declared.Element.the-variants.{Resistor, Capacitor, Inductor, Input, Steady}
@@ -99,9 +99,9 @@ none = omega zarith
 source-quiet : {z : ℤ} → within sourceLimit z ≡ true → Abs z waveLimit
 source-quiet {z} e = abs-as (within-abs sourceLimit z e) refl (omega arith)
 
-module _ (x s : ℤ) where
+module _ (ρ : Rounding) (x s : ℤ) where
   -- an input sends the sample, any other part the same with every sample
-  sends-either : (p : Part) → partSends rounded x s p ≡ cond (isInput p) x (partSends rounded (pos 0) s p)
+  sends-either : (p : Part) → partSends (wholeWaves ρ) x s p ≡ cond (isInput p) x (partSends (wholeWaves ρ) (pos 0) s p)
   unfolding sends
   sends-either Blank = refl
   sends-either (Leaf (Resistor v)) = refl
@@ -111,7 +111,7 @@ module _ (x s : ℤ) where
   sends-either (Leaf (Steady v m)) = refl
   sends-either (Adaptor a) = refl
 
-  part-quiet : (p : Part) → within sourceLimit x ≡ true → soundWave p s ≡ true → soundPart p ≡ true → Abs (partSends rounded x s p) waveLimit
+  part-quiet : (p : Part) → within sourceLimit x ≡ true → soundWave p s ≡ true → soundPart p ≡ true → Abs (partSends (wholeWaves ρ) x s p) waveLimit
   unfolding sends
   part-quiet Blank h k l = none
   part-quiet (Leaf (Resistor v)) h k l = none
@@ -127,13 +127,13 @@ module _ (x s : ℤ) where
 pub record Landed (p : Plan) (r : Record) (ws : List ℤ) (x : ℤ) (above below : List ℤ) : Type 0 where
   pub fixed : Fixed p r
   pub source : within sourceLimit x ≡ true
-  pub calm : within waveLimit (risen rounded r (storedAt ws) x) ≡ true
-  pub quiet : (j : ℕ) → Abs (sent rounded r (storedAt ws) x j) waveLimit
+  pub calm : within waveLimit (risen (rounded r) r (storedAt ws) x) ≡ true
+  pub quiet : (j : ℕ) → Abs (sent (rounded r) r (storedAt ws) x j) waveLimit
   pub still : Loaded r ws above
-  pub sends : (j : ℕ) → isLeaf (partAt r j) ≡ true → storedAt above (slotOf r j) ≡ sent rounded r (storedAt ws) x j
-  pub rises : storedAt above (topSlot r) ≡ risen rounded r (storedAt ws) x
-  pub arrives : (j : ℕ) → isLeaf (partAt r j) ≡ true → storedAt below (slotOf r j) ≡ arriving rounded (reflected r) r (storedAt ws) x j
-  pub returns : storedAt below (topSlot r) ≡ reflected r (risen rounded r (storedAt ws) x)
+  pub sends : (j : ℕ) → isLeaf (partAt r j) ≡ true → storedAt above (slotOf r j) ≡ sent (rounded r) r (storedAt ws) x j
+  pub rises : storedAt above (topSlot r) ≡ risen (rounded r) r (storedAt ws) x
+  pub arrives : (j : ℕ) → isLeaf (partAt r j) ≡ true → storedAt below (slotOf r j) ≡ arriving (rounded r) (reflected r) r (storedAt ws) x j
+  pub returns : storedAt below (topSlot r) ≡ reflected r (risen (rounded r) r (storedAt ws) x)
   pub answer : Abs (storedAt below (topSlot r)) waveLimit
   pub modest : Modest below
 
@@ -147,19 +147,19 @@ module _ {p : Plan} {ups ds : List ℤ} (k : LaidOut p ups ds) (x : ℤ) where
 
   -- what row j sends with the sample
   abbrev pub sendsAt : ℕ → ℤ
-  sendsAt = sent rounded r (storedAt (k .stored)) x
+  sendsAt = sent (rounded r) r (storedAt (k .stored)) x
 
   leaf-rises : (j : ℕ) → isLeaf (partAt r j) ≡ true → rises r sendsAt j ≡ sendsAt j
   leaf-rises j e =
       let y = leaf-of (partAt r j) e in
-      Trees.up-leaf r (k .fixed .accepted .lower) j (Trees.tree-leaf r (k .fixed .accepted .lower) j (y .0) (y .1)) rounded (ratioAt r) sendsAt
+      Trees.up-leaf r (k .fixed .accepted .lower) j (Trees.tree-leaf r (k .fixed .accepted .lower) j (y .0) (y .1)) (rounded r) (ratioAt r) sendsAt
 
   -- with the sample at the floor every leaf has in its slot what it sends
   all-sent : (j : ℕ) → j < r .count → isLeaf (partAt r j) ≡ true → storedAt (set ups floor x) (slotOf r j) ≡ sendsAt j
   unfolding sent
   all-sent j l e =
       let y = leaf-of (partAt r j) e in
-      rw (sends-either x (storedAt (k .stored) j) (partAt r j))
+      rw (sends-either (roundingOf (r .version)) x (storedAt (k .stored) j) (partAt r j))
       (elim (stands (k .fixed) j l (y .0) (y .1)) [
         | inl h ↦
             let other = ap isInput (y .1) ∙ h .1 in
@@ -180,11 +180,11 @@ module _ {p : Plan} {ups ds : List ℤ} (k : LaidOut p ups ds) (x : ℤ) where
     quiet j = elim (decLt j (r .count)) [
       | yes l ↦
           let sound = k .loaded .sound j (omega (arith, k .fixed .accepted .short)) in
-          part-quiet x (storedAt (k .stored) j) (partAt r j) source sound (is-true _ (k .fixed .accepted .sound j l))
+          part-quiet (roundingOf (r .version)) x (storedAt (k .stored) j) (partAt r j) source sound (is-true _ (k .fixed .accepted .sound j l))
       | no l ↦ rw (k .fixed .accepted .blank j (omega arith)) none
     ]
 
-    abbrev pub swept : Swept (p .joints) (p .shape .adaptors)
+    abbrev pub swept : Swept (p .shape .inward) (p .joints) (p .shape .adaptors)
     swept = record {
       circuit = r;
       wave = sendsAt;
@@ -192,10 +192,11 @@ module _ {p : Plan} {ups ds : List ℤ} (k : LaidOut p ups ds) (x : ℤ) where
       slotted = k .fixed .slotted;
       all = k .fixed .adaptors;
       staged = k .fixed .staged;
+      rounds = k .fixed .rounds;
       quiet = quiet;
     }
 
-    abbrev pub climbs : Climbs (p .joints) (p .shape .adaptors) (set ups floor x)
+    abbrev pub climbs : Climbs (p .shape .inward) (p .joints) (p .shape .adaptors) (set ups floor x)
     climbs = record { swept = swept; begun = begun }
 
   -- ---- between the sweeps
@@ -228,10 +229,10 @@ module _ {p : Plan} {ups ds : List ℤ} (k : LaidOut p ups ds) (x : ℤ) where
       size = k .loaded .size;
       long = h .up .long;
       sound = k .loaded .sound;
-      leaves = λ j l e f. leaf-risen j e ∙ rw (sends-either x (storedAt (k .stored) j) (partAt r j), f);
+      leaves = λ j l e f. leaf-risen j e ∙ rw (sends-either (roundingOf (r .version)) x (storedAt (k .stored) j) (partAt r j), f);
     }
 
-    top-wave : wave ≡ risen rounded r (storedAt (k .stored)) x
+    top-wave : wave ≡ risen (rounded r) r (storedAt (k .stored)) x
     unfolding risen treeOf lastRow
     top-wave =
         let last = k .fixed .slotted .last in
@@ -250,7 +251,7 @@ module _ {p : Plan} {ups ds : List ℤ} (k : LaidOut p ups ds) (x : ℤ) where
       pub answer-there : storedAt (set ds top answer) top ≡ answer
       answer-there = getD-set-same ds top answer (pos 0) (omega (arith, k .room .long, k .fixed .adaptors, k .fixed .slotted .few))
 
-      abbrev pub drops : Drops (p .joints) (p .shape .adaptors) above (set ds top answer)
+      abbrev pub drops : Drops (p .shape .inward) (p .joints) (p .shape .adaptors) above (set ds top answer)
       drops = record {
         swept = swept (h .source);
         risen = h .up;
@@ -273,7 +274,7 @@ module _ {p : Plan} {ups ds : List ℤ} (k : LaidOut p ups ds) (x : ℤ) where
             still = still;
             sends = leaf-risen;
             rises = ap (storedAt above) (sym top-slot) ∙ top-wave;
-            arrives = λ j e. reached .leaves j e ∙ ap (λ z. reach rounded (ratioAt r) sendsAt (treeOf r) z j) diode;
+            arrives = λ j e. reached .leaves j e ∙ ap (λ z. reach (rounded r) (ratioAt r) sendsAt (treeOf r) z j) diode;
             returns = reached .above ∙ diode;
             answer = abs-as answer-range (sym (reached .above ∙ answered)) (omega arith);
             modest = reached .modest;

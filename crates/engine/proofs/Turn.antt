@@ -12,7 +12,7 @@ use lib.IntN.{ℤ, pos, natAbs}
 use Rattle.whole.specs.Order.{Abs, abs-as}
 use Rattle.circuit.specs.Record.{rowLimit, partAt, treeAt}
 use Rattle.circuit.specs.SetUp.{ratioAt}
-use Rattle.circuit.specs.Sample.{rounded, sendsUp, storedAt}
+use Rattle.circuit.specs.Sample.{wholeWaves, rounded, sendsUp, storedAt}
 use Rattle.circuit.specs.declared.Join.{Join}
 use Rattle.circuit.specs.declared.Adaptor.{Adaptor as Joint}
 use Rattle.circuit.specs.declared.Part.{Part}
@@ -21,7 +21,7 @@ use Rattle.circuit.specs.declared.Record.{Record}
 use Rattle.laws.specs.Accepted.{adaptorLimit, adaptors, Child, Lower, Apart}
 use Rattle.laws.proofs.Formed.{child-lower}
 use Rattle.laws.proofs.Trees.{tree-adaptor, up-adaptor}
-use Rattle.engine.specs.Wave.{upLimit, Below}
+use Rattle.engine.specs.Wave.{upLimit, way, Below}
 use Rattle.parts.specs.Parts.{roleOf}
 use Rattle.engine.specs.Plan.{floor, slotOf, topSlot, joinOf, Joints, Slotted}
 use Rattle.engine.specs.Sweep.{rises, Risen, Swept}
@@ -69,8 +69,8 @@ pub record Turn (r : Record) (own : ℕ) (j : Join) (slots : Bool → ℕ) (g : 
   pub child : (side : Bool) → slots side ≡ slotOf r (childOf joint side)
   pub ratio : g ≡ pos (ratioAt r row)
 
-module _ {js : Joints} {n : ℕ} (s : Swept js n) where
-  open Swept s using (circuit as r, wave as w, accepted, slotted, all, staged, quiet)
+module _ {inward : Bool} {js : Joints} {n : ℕ} (s : Swept inward js n) where
+  open Swept s using (circuit as r, wave as w, accepted, slotted, all, staged, rounds, quiet)
 
   pub turn : {k own : ℕ} → k < n → own ≡ suc floor + k → {j : Join} {first second : ℕ} {g : ℤ}
       → j ≡ joinOf (getD (js .joins) k 0) → first ≡ getD (js .firsts) k 0 → second ≡ getD (js .seconds) k 0 → g ≡ getD (js .ratios) k (pos 0)
@@ -111,7 +111,7 @@ module _ {js : Joints} {n : ℕ} (s : Swept js n) where
     -- ---- what it reads and sends, once all rows with lower slots have their waves
 
     pub rises-range : (i : ℕ) → Abs (rises r w i) (upLimit (adaptors (treeAt r i)))
-    rises-range i = tree-range (ratioAt r) w (accepted .ratio) quiet (treeAt r i)
+    rises-range i = rw rounds (tree-range inward (ratioAt r) w (accepted .ratio) quiet (treeAt r i))
 
     -- no row's tree has more adaptors than a circuit can have, and those of its two children together have one less
     pub few : (i : ℕ) → i < r .count → adaptors (treeAt r i) ≤ adaptorLimit
@@ -129,8 +129,9 @@ module _ {js : Joints} {n : ℕ} (s : Swept js n) where
           let c = childOf joint side in
           hears side ∙ ap (storedAt us) (child side) ∙ risen .right c (child-inside side) (omega (arith, child-slot side, child side))
 
-      pub sends-right : sendsUp rounded j (natAbs g) (heard true) (heard false) ≡ rises r w row
-      sends-right = rw (wave-right true, wave-right false, join, ratio) (sym (up-adaptor r (accepted .lower) row joint part rounded (ratioAt r) w))
+      pub sends-right : sendsUp (wholeWaves (way inward)) j (natAbs g) (heard true) (heard false) ≡ rises r w row
+      sends-right =
+          rw (wave-right true, wave-right false, join, ratio, ← rounds) (sym (up-adaptor r (accepted .lower) row joint part (rounded r) (ratioAt r) w))
 
       pub below : Below g (heard true) (heard false)
       below = record {
@@ -142,7 +143,7 @@ module _ {js : Joints} {n : ℕ} (s : Swept js n) where
     -- ---- the turn of the sweep up
 
     pub climbed : {us : List ℤ} → Risen r w own us → {heard : Bool → ℤ} → ((side : Bool) → heard side ≡ storedAt us (slots side))
-        → {u : ℤ} → u ≡ sendsUp rounded j (natAbs g) (heard true) (heard false) → {m : ℕ} → m ≤ suc own → Risen r w m (set us own u)
+        → {u : ℤ} → u ≡ sendsUp (wholeWaves (way inward)) j (natAbs g) (heard true) (heard false) → {m : ℕ} → m ≤ suc own → Risen r w m (set us own u)
     climbed {us} risen hears {u} e more =
         let sent = e ∙ sends-right (omega arith) risen hears in
         record {

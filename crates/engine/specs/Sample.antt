@@ -12,7 +12,7 @@ use Rattle.circuit.specs.Numbers.{done}
 use Rattle.circuit.specs.Record.{partAt, isLeaf, isInput, rowLimit, adaptorsOf}
 use Rattle.circuit.specs.Curve.{waveLimit}
 use Rattle.circuit.specs.SetUp.{nothing, preparedRows, setUpReport}
-use Rattle.circuit.specs.Sample.{rounded, sent, sampled, refused, finished, storedAt}
+use Rattle.circuit.specs.Sample.{roundingOf, rounded, sent, sampled, refused, finished, storedAt}
 use Rattle.circuit.specs.Run.{soundWave}
 use Rattle.circuit.specs.declared.Record.{Record}
 use Rattle.laws.specs.Accepted.{Sized, Accepted}
@@ -20,6 +20,7 @@ use Rattle.parts.specs.Parts.{turnOf, mirrorOf}
 use Rattle.engine.specs.declared.plan.Shape.{Shape}
 use Rattle.engine.specs.declared.sample.Outcome.{Outcome}
 use Rattle.engine.specs.declared.sample.Outcome.the-variants.{Loud, Over, Finished}
+use Rattle.engine.specs.Wave.{way}
 use Rattle.engine.specs.Curve.{Drawing}
 use Rattle.engine.specs.Plan.{floor, slotOf, reactives, Slotted, Staged, tapRow, Plan}
 use Rattle.engine.specs.Sweep.{Modest}
@@ -88,6 +89,7 @@ Settled shape turns ups ds (Finished v) after =
 pub record Fixed (p : Plan) (r : Record) : Type 0 where
   pub accepted : Accepted r
   pub slotted : Slotted r
+  pub rounds : roundingOf (r .version) ≡ way (p .shape .inward)
   pub adaptors : p .shape .adaptors ≡ adaptorsOf r
   pub reactive : p .shape .reactive ≡ reactives r
   pub tap : p .shape .tap ≡ slotOf r (tapRow r)
@@ -108,7 +110,7 @@ pub record Loaded (r : Record) (ws ups : List ℤ) : Type 0 where
   pub long : length ups ≡ rowLimit
   pub sound : (j : ℕ) → j < rowLimit → soundWave (partAt r j) (storedAt ws j) ≡ true
   pub leaves : (j : ℕ) → j < r .count → isLeaf (partAt r j) ≡ true → isInput (partAt r j) ≡ false
-      → storedAt ups (slotOf r j) ≡ sent rounded r (storedAt ws) (pos 0) j
+      → storedAt ups (slotOf r j) ≡ sent (rounded r) r (storedAt ws) (pos 0) j
 
 -- it is laid out for a circuit, whichever that is
 pub record LaidOut (p : Plan) (ups ds : List ℤ) : Type 0 where

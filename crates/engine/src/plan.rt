@@ -7,6 +7,7 @@ use crate::curve::lay_lines;
 use crate::slot::slot_at;
 use circuit::Join;
 use circuit::Part;
+use circuit::ROUNDED_DOWN;
 use circuit::ROWS;
 use parts::mirror;
 use parts::role_of;
@@ -25,12 +26,13 @@ ghost use lib.IntN.{pos};
 ghost use lib.ListN.{length, getD, set};
 ghost use Rattle.circuit.specs.Record.{rowLimit, partAt, adaptorsOf};
 ghost use Rattle.circuit.specs.SetUp.{parts};
-ghost use Rattle.circuit.specs.Sample.{storedAt};
+ghost use Rattle.circuit.specs.Sample.{roundingOf, storedAt};
 ghost use Rattle.circuit.specs.declared.Row.{Row};
 ghost use Rattle.circuit.specs.declared.Record.{Record};
 ghost use Rattle.laws.specs.Accepted.{adaptorLimit};
 ghost use Rattle.sheet.specs.Sheet.{headingOf, rowsIn, columnsIn, recordIn, partIn};
 ghost use Rattle.parts.specs.Parts.{turnOf, mirrorOf};
+ghost use Rattle.engine.specs.Wave.{way};
 ghost use Rattle.engine.specs.Curve.{lineLimit};
 ghost use Rattle.engine.specs.Plan.{Roled, rank, slotIn, slotOf};
 ghost use Rattle.engine.specs.Plan.{joinOf, jointsOf, Staged, tapRow, planOf, Layable, Seated, Roomy};
@@ -47,6 +49,8 @@ const ROLES: usize = 5;
 
 // The numbers of a circuit that a sample asks for.
 pub(crate) struct Shape {
+    // whether adaptors round toward zero, and not down
+    pub inward: bool,
     // how many adaptors and reactive leaves there are
     pub adaptors: usize,
     pub reactive: usize,
@@ -225,12 +229,13 @@ fn turns_of(
 fn shape_of(h: Heading, q: usize, slots: &[u8; ROWS]) -> Shape
     requires { ⌜ ((r : Record) × (prepared : List ℕ) × (h ≡ headingOf r) × Layable r prepared (now slots)) ⌝ }
     ensures { λ s. ⌜ ((r : Record) (prepared : List ℕ) → h ≡ headingOf r → Layable r prepared (now (slots .entry))
-        → (s .adaptors ≡ adaptorsOf r) × (s .reactive ≡ q) × (s .tap ≡ slotOf r (tapRow r)) × (s .mirror ≡ mirrorOf (r .kind)) × (s .width ≡ r .width)) ⌝ }
+        → (roundingOf (r .version) ≡ way (s .inward)) × (s .adaptors ≡ adaptorsOf r) × (s .reactive ≡ q) × (s .tap ≡ slotOf r (tapRow r)) × (s .mirror ≡ mirrorOf (r .kind)) × (s .width ≡ r .width)) ⌝ }
 {
     let count = wide(h.count);
     let kind = h.kind;
     let read = tap_row(h.tap, count - 1);
     Shape {
+        inward: h.version != ROUNDED_DOWN,
         adaptors: count / 2,
         reactive: q,
         tap: wide(slots[read]),

@@ -149,7 +149,7 @@ pub(crate) fn sample(
     let n = shape.adaptors;
     let wave = x as i64;
     up[FLOOR] = wave;
-    sweep_up(joins, firsts, seconds, ratios, n, up);
+    sweep_up(shape.inward, joins, firsts, seconds, ratios, n, up);
     let high = up[FLOOR + n];
     let risen = Wave(high);
     if !risen.in_limit() {
@@ -158,6 +158,6 @@ pub(crate) fn sample(
     let answer = reflect(shape.mirror, shape.width, lines, risen);
     let top = answer.0;
     down[FLOOR + n] = top;
-    sweep_down(joins, firsts, seconds, ratios, n, up, down);
+    sweep_down(shape.inward, joins, firsts, seconds, ratios, n, up, down);
     settle(shape, turns, up, down)
 }

@@ -14,6 +14,7 @@ ghost use Rattle.engine.specs.Plan.{floor, jointsOf};
 ghost use Rattle.engine.specs.Sweep.{Climbs, Risen, Drops, Reached};
 
 pub(crate) fn sweep_up(
+    inward: bool,
     joins: &[u8; JOINTS],
     firsts: &[u8; JOINTS],
     seconds: &[u8; JOINTS],
@@ -21,13 +22,14 @@ pub(crate) fn sweep_up(
     n: usize,
     up: &mut [i64; ROWS],
 )
-    requires { ⌜ Climbs (jointsOf (now joins) (now firsts) (now seconds) (now ratios)) n (now up) ⌝ }
-    ensures { λ r. ⌜ ((c : Climbs (jointsOf (now (joins .entry)) (now (firsts .entry)) (now (seconds .entry)) (now (ratios .entry))) n (now (up .entry))) → Risen (c .swept .circuit) (c .swept .wave) (suc floor + n) (now (up .exit))) ⌝ }
+    requires { ⌜ Climbs inward (jointsOf (now joins) (now firsts) (now seconds) (now ratios)) n (now up) ⌝ }
+    ensures { λ r. ⌜ ((c : Climbs inward (jointsOf (now (joins .entry)) (now (firsts .entry)) (now (seconds .entry)) (now (ratios .entry))) n (now (up .entry))) → Risen (c .swept .circuit) (c .swept .wave) (suc floor + n) (now (up .exit))) ⌝ }
 {
     for k in 0..n {
         let first = child_at(firsts, k);
         let second = child_at(seconds, k);
         let sent = sends_up(
+            inward,
             join_at(joins, k),
             ratio_at(ratios, k),
             wave_at(up, first),
@@ -39,6 +41,7 @@ pub(crate) fn sweep_up(
 
 // `down` holds the wave that reaches the top, in the top's slot. The loop counts by slots, not by places, since that makes it quicker.
 pub(crate) fn sweep_down(
+    inward: bool,
     joins: &[u8; JOINTS],
     firsts: &[u8; JOINTS],
     seconds: &[u8; JOINTS],
@@ -47,8 +50,8 @@ pub(crate) fn sweep_down(
     up: &[i64; ROWS],
     down: &mut [i64; ROWS],
 )
-    requires { ⌜ Drops (jointsOf (now joins) (now firsts) (now seconds) (now ratios)) n (now up) (now down) ⌝ }
-    ensures { λ r. ⌜ ((c : Drops (jointsOf (now (joins .entry)) (now (firsts .entry)) (now (seconds .entry)) (now (ratios .entry))) n (now (up .entry)) (now (down .entry))) → Reached (c .swept .circuit) (c .swept .wave) (now (down .entry)) (now (down .exit))) ⌝ }
+    requires { ⌜ Drops inward (jointsOf (now joins) (now firsts) (now seconds) (now ratios)) n (now up) (now down) ⌝ }
+    ensures { λ r. ⌜ ((c : Drops inward (jointsOf (now (joins .entry)) (now (firsts .entry)) (now (seconds .entry)) (now (ratios .entry))) n (now (up .entry)) (now (down .entry))) → Reached (c .swept .circuit) (c .swept .wave) (now (down .entry)) (now (down .exit))) ⌝ }
 {
     let mut slot = FLOOR + n;
     while FLOOR < slot {
@@ -56,6 +59,7 @@ pub(crate) fn sweep_down(
         let first = child_at(firsts, k);
         let second = child_at(seconds, k);
         let b = sends_down(
+            inward,
             join_at(joins, k),
             ratio_at(ratios, k),
             wave_at(up, first),

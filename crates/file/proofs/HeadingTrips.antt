@@ -40,10 +40,10 @@ kind-small Pair = omega arith
 -- ---- from bytes that pass to the fields
 
 module _ (s : List ℕ) (bs : Bytes s) (long : headingLength ≤ length s) where
-  pub heading-back : numberAt 2 0 s ≡ 1 → leb (numberAt 1 4 s) 2 ≡ true → clear 2 6 s ≡ true → clear 4 12 s ≡ true → isNan (floatAt 16 s) ≡ false
+  pub heading-back : leb (numberAt 1 4 s) 2 ≡ true → clear 2 6 s ≡ true → clear 4 12 s ≡ true → isNan (floatAt 16 s) ≡ false
       → heading (recordOf s) ≡ take headingLength s
   unfolding heading recordOf
-  heading-back version kind z₆ z₁₂ number =
+  heading-back kind z₆ z₁₂ number =
       part-more s 0 16 8 16 _ _ refl
       (part-more s 0 12 4 12 _ _ refl
       (part-more s 0 8 4 8 _ _ refl
@@ -51,7 +51,7 @@ module _ (s : List ℕ) (bs : Bytes s) (long : headingLength ≤ length s) where
       (part-more s 0 5 1 5 _ _ refl
       (part-more s 0 4 1 4 _ _ refl
       (part-more s 0 3 1 3 _ _ refl
-      (part-more s 0 2 1 2 _ _ refl (ap (bytes 2) (sym version) ∙ back 0 2 (omega arith)) (back 2 1 (omega arith)))
+      (part-more s 0 2 1 2 _ _ refl (back 0 2 (omega arith)) (back 2 1 (omega arith)))
       (back 3 1 (omega arith)))
       (ap (bytes 1) (kind-back _ (leb-true _ _ kind)) ∙ back 4 1 (omega arith)))
       (back 5 1 (omega arith)))
@@ -69,9 +69,9 @@ module _ (r : Record) (held : Held r) (s : List ℕ) (e : take headingLength s �
   heading-field : (i k : ℕ) → i + k ≤ headingLength → take k (drop (0 + i) s) ≡ take k (drop i (heading r))
   heading-field i k h = sym (part-inner s 0 headingLength i k h) ∙ ap (λ (l : List ℕ). take k (drop i l)) e
 
-  pub version-read : numberAt 2 0 s ≡ 1
-  unfolding heading bytes numberOf
-  version-read = ap numberOf (heading-field 0 2 (omega arith))
+  pub version-read : numberAt 2 0 s ≡ r .version
+  unfolding heading bytes
+  version-read = ap numberOf (heading-field 0 2 (omega arith)) ∙ number-bytes 2 (r .version) (held .version)
 
   pub count-read : numberAt 1 2 s ≡ r .count
   unfolding heading bytes

@@ -69,13 +69,17 @@ module _ {A D : Type 0} (own : D → List Val → Fml) (into : A → D) (P : A �
 
 pub held : (r : Record) (vs : List Val) → shadow (Types.the-row .own r vs) → Held r
 held r vs h =
-    let tap = h .1 .1 .1 .1 in
+    let version = h .1 .1 in
+    let rate = version .1 in
+    let count = rate .1 in
+    let tap = count .1 in
     let kind = tap .1 .1 in
     let columns = kind .1 .1 in
     record {
       sized = sized r vs h;
-      rate = h .1 .1 .0 .1;
-      count = h .1 .1 .1 .0 .1;
+      version = version .0 .1;
+      rate = rate .0 .1;
+      count = count .0 .1;
       tap = tap .0 .1;
       width = kind .1 .0 .1;
       resistance = float-held (r .resistance) (columns .1 .0 .1);

@@ -7,21 +7,20 @@ use borrow.Author.Tests.{eq-eqb, ne-eqb}
 use mathlib.Core.List.{List}
 use lib.ListN.{length, replicate}
 use Rattle.circuit.specs.Numbers.{handed, report, done, judge, unless}
-use Rattle.circuit.specs.Counting.{every}
-use Rattle.circuit.specs.Record.{rowLimit, formRule, recordRules}
-use Rattle.circuit.specs.SetUp.{nothing, setUpRules, setUpReport, setUpRows}
+use Rattle.circuit.specs.Record.{rowLimit, versionRule}
+use Rattle.circuit.specs.SetUp.{nothing, circuitRules, setUpRules, setUpReport, setUpRows}
 use Rattle.circuit.specs.File.{fileLength, fileOf, recordOf, noRecord, fileLengthRule, fileRules, readRules, readReport, readRecord, WriteCall, writeRules, writeReport, bufferAfter}
 use Rattle.circuit.specs.Promises.{Opens, Writes}
 use Rattle.circuit.specs.declared.Answer.{Answer}
 use Rattle.circuit.specs.declared.Opened.{Opened}
-use Rattle.laws.proofs.Judging.{judge-pass, judge-fail, judge-rest, judge-stop, judge-of, zero-pass}
+use Rattle.laws.proofs.Judging.{judge-pass, judge-fail, judge-rest, judge-stop, judge-of, zero-pass, version-passed}
 use Rattle.blocks.proofs.Judged.{file-numbered}
 
 -- ---- reading
 
--- the record of zeros is refused
+-- the record of zeros is refused, for its version
 none-prepared : setUpRows noRecord ≡ replicate rowLimit nothing
-unfolding setUpRows setUpReport setUpRules recordRules judge formRule noRecord every
+unfolding setUpRows setUpReport setUpRules judge versionRule noRecord
 none-prepared = refl
 
 module _ (s : List ℕ) where
@@ -32,8 +31,10 @@ module _ (s : List ℕ) where
 
   -- the bytes are accepted
   pub read-on : judge fileRules s .number ≡ 0 → readReport s ≡ setUpReport (recordOf s)
-  unfolding readReport readRules fileRules setUpReport
-  read-on e = judge-rest fileRules _ s (zero-pass fileRules s file-numbered e) ∙ judge-of recordOf setUpRules s
+  unfolding readReport readRules fileRules recordOf
+  read-on e =
+      let p = zero-pass fileRules s file-numbered e in
+      judge-rest fileRules _ s p ∙ judge-of recordOf circuitRules s ∙ sym (version-passed (recordOf s) (p .1 .1 .0))
 
   pub record-read : readReport s .number ≡ 0 → readRecord s ≡ recordOf s
   unfolding readRecord

@@ -13,8 +13,8 @@ use lib.Seq.{take-at, length-take-le, take-take}
 use lib.IntN.{pos}
 use lib.Ieee.{Float, nan, inf, fin, isNan, mul, le, lt, eq}
 use Rattle.circuit.specs.Counting.{every}
-use Rattle.circuit.specs.Numbers.{handed, done}
-use Rattle.circuit.specs.Record.{rowLimit, columnLimit, blankRow, rowAt, partAt, columnAt, soundPart, valueRule}
+use Rattle.circuit.specs.Numbers.{handed, done, passes}
+use Rattle.circuit.specs.Record.{rowLimit, columnLimit, blankRow, rowAt, partAt, columnAt, soundPart, versionRule, valueRule}
 use Rattle.circuit.specs.SetUp.{fits, curveResistanceRule, setUpReport}
 use Rattle.circuit.specs.File.{fileLength, blockLength, checkPlace, rowsPerBlock, rowLength, columnLength, numberAt, floatAt, checkOf, block, heading, rowBytes, rowFrom, columnFields, columnFrom, concat, blocksOf, sealedFrom, fileOf, rowPlace, columnPlace, recordOf, blockAt, clear, clearRow, clearFile, readReport, WriteCall, writeReport}
 use Rattle.circuit.specs.Promises.{Reads, Writes}
@@ -102,7 +102,7 @@ module _ (s : List ℕ) (bs : Bytes s) (ok : readReport s ≡ done) where
 
   heading-there : heading (recordOf s) ≡ take headingLength (blockAt 0 s)
   heading-there =
-      Heading.heading-back s bs (omega (arith, file-sound .long)) (file-sound .version) (file-tests .0) (file-tests .1) (file-tests .2) resistance-number
+      Heading.heading-back s bs (omega (arith, file-sound .long)) (file-tests .0) (file-tests .1) (file-tests .2) resistance-number
       ∙ sym (take-take headingLength blockLength s (omega arith))
 
   rows-there : concat (map rowBytes (recordOf s .rows)) ≡ take (rowLength * rowLimit) (blockAt 1 s)
@@ -192,6 +192,7 @@ module _ (r : Record) (held : Held r) where
   unfolding recordOf
   record-found =
       rw (
+        Heading.version-read r held (fileOf r) heading-found,
         Heading.rate-read r held (fileOf r) heading-found,
         Heading.count-read r held (fileOf r) heading-found,
         Heading.tap-read r held (fileOf r) heading-found,
@@ -215,18 +216,18 @@ module _ (r : Record) (held : Held r) where
         pad-clear 2 (columnLength * columnLimit) (omega arith) (columns-size r (held .sized)),
       )
 
-  sound-found : Sound (fileOf r)
-  sound-found = record {
+  sound-found : versionRule (r .version) ≡ passes → Sound (fileOf r)
+  sound-found v = record {
     long = file-long;
     right = λ k h.
         let l : k < fileLength / blockLength = omega (arith, file-long) in
         ap (λ (b : List ℕ). numberAt 4 checkPlace b) (block-found k l) ∙ block-right k (fieldsOf k) (roomy-at (blocksOf r) roomy k) ∙ sym (ap (checkOf k) (block-found k l));
-    version = Heading.version-read r held (fileOf r) heading-found;
+    version = ap versionRule (Heading.version-read r held (fileOf r) heading-found) ∙ v;
     clear = clear-found;
   }
 
   report-found : setUpReport r ≡ done → readReport (fileOf r) ≡ done
-  report-found ok = read-on (fileOf r) (sound-judged (fileOf r) sound-found) ∙ ap setUpReport record-found ∙ ok
+  report-found ok = read-on (fileOf r) (sound-judged (fileOf r) (sound-found (done-passed r ok .version))) ∙ ap setUpReport record-found ∙ ok
 
 -- ---- the round trips, of what reading hands back and what writing leaves
 

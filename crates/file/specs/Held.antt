@@ -32,6 +32,7 @@ pub record HeldColumn (c : Column) : Type 0 where
 
 pub record Held (r : Record) : Type 0 where
   pub sized : Sized r
+  pub version : r .version < 2 ^ 16
   pub rate : r .rate < 2 ^ 32
   pub count : r .count < 256
   pub tap : r .tap < 256

@@ -63,6 +63,7 @@ pub fn put(r: Record, b: Built) -> Record
     let kind = b.kind;
     let columns = b.columns;
     Record {
+        version: r.version,
         rate: r.rate,
         count: r.count,
         tap: r.tap,

@@ -5,7 +5,7 @@ use mathlib.Core.List.{List, [], _∷_}
 use lib.Dec.{lit<}
 use Rattle.circuit.specs.Numbers.{done, passes, Rule, rule, judge, of}
 use Rattle.circuit.specs.Record.{recordRules}
-use Rattle.circuit.specs.SetUp.{portRules, setUpRules, setUpReport}
+use Rattle.circuit.specs.SetUp.{portRules, circuitRules, setUpRules, setUpReport}
 use Rattle.circuit.specs.Run.{storedWavesRule, Charged, chargedRules}
 use Rattle.laws.proofs.Judging.{Pass, Numbered, _orElse_, judge-of-append, zero-pass, pass-both, both-pass, both-numbered, pass-of, of-pass, of-numbered, judge-below, set-up-numbered, pass-passed, passed-pass, passed-done, done-passed}
 
@@ -44,9 +44,9 @@ cleared-pass k h =
 pub zero-cleared : (k : Charged) → judge chargedRules k .number ≡ 0 → Cleared k
 zero-cleared k e = pass-cleared k (zero-pass chargedRules k charged-numbered e)
 
--- 4 to 12 are below 13
+-- 3 to 12 are below 13
 pub charged-below : (k : Charged) → judge chargedRules k .number < 13
-unfolding chargedRules setUpRules recordRules portRules of
+unfolding chargedRules setUpRules circuitRules recordRules portRules of
 charged-below k =
     judge-below 13 chargedRules k (lit< tt)
-    (lit< tt, (lit< tt, (lit< tt, (lit< tt, (lit< tt, (lit< tt, (lit< tt, (lit< tt, (lit< tt, (lit< tt, (lit< tt, tt)))))))))))
+    (lit< tt, (lit< tt, (lit< tt, (lit< tt, (lit< tt, (lit< tt, (lit< tt, (lit< tt, (lit< tt, (lit< tt, (lit< tt, (lit< tt, tt))))))))))))

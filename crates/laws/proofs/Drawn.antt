@@ -14,10 +14,10 @@ use Rattle.whole.specs.Order.{zarith, Abs}
 use Rattle.whole.specs.Ring.{var, _⊝_}
 use Rattle.whole.specs.Combine.{multiple}
 use Rattle.whole.specs.Mirror.{wholeE, _⊕F_, _⊝F_, timesE, by-facts}
-use Rattle.whole.specs.Quotients.{trunc-low, trunc-rounds}
+use Rattle.whole.specs.Quotients.{trunc-low}
 use Rattle.whole.specs.Fraction.{Fraction, whole, _-F_, below, _≈_}
 use Rattle.whole.specs.Fractions.{≈-refl}
-use Rattle.whole.specs.Nearness.{NoFurther, no-further-as, Near, near-rounds}
+use Rattle.whole.specs.Nearness.{NoFurther, no-further-as, Near}
 use Rattle.circuit.specs.Counting.{total}
 use Rattle.circuit.specs.Record.{columnAt}
 use Rattle.circuit.specs.Curve.{waveLimit, through, slopeAt, passed, piece, drawn, lineOf, line, towardZero, reflected}
@@ -28,7 +28,7 @@ use Rattle.circuit.specs.declared.Record.{Record}
 use Rattle.laws.specs.Accepted.{Beside, Crosses, Drawn}
 use Rattle.laws.proofs.ColumnRule.{ahead}
 use Rattle.laws.proofs.Line.{slopeTo, run-is, below-whole, not-below-whole, passedOf, passed-stop, passed-all}
-use Rattle.laws.proofs.Truncated.{toward-zero-moves}
+use Rattle.laws.proofs.Truncated.{toward-zero-near, toward-zero-moves}
 use Rattle.laws.proofs.Gentle.{Gentle, gentle-as, gentle-moves, never-exceeds, glue, through-gentle, through-at, paired-gentle}
 
 -- rounded toward zero, a number that is no further than a whole one is no larger
@@ -41,8 +41,8 @@ toward-zero-below q a h =
 
 -- the answer is within one of the line, whatever the line
 pub answer-near : (r : Record) (a : ℤ) → Near 1 (reflected r a) (line r (whole a))
-unfolding reflected towardZero
-answer-near r a = let q = line r (whole a) in near-rounds (q .den-pos) (trunc-rounds (q .num) (q .den) (q .den-pos))
+unfolding reflected
+answer-near r a = toward-zero-near (line r (whole a))
 
 -- a line through a column with the slope to the next passes through the next
 meets-next : (o n : Column) → Beside o n → through o (slopeTo o n) (whole (n .x)) ≈ whole (n .y)

@@ -4,11 +4,11 @@ use mathlib.Core.Path.{_≡_, refl, ap₂}
 use mathlib.Core.List.{List, [], _∷_, _++_, map}
 use lib.ListN.{set}
 use Rattle.circuit.specs.Numbers.{report, done}
-use Rattle.circuit.specs.File.{fileLength, blockLength, block, zeros, fileOf, readReport, writeReport}
+use Rattle.circuit.specs.File.{fileLength, blockLength, bytes, block, zeros, fileOf, readReport, writeReport}
 use Rattle.circuit.specs.Text.{text}
 use Rattle.circuit.specs.Listing.{listing}
 use Rattle.circuit.proofs.Working.{working}
-use Rattle.circuit.proofs.Circuits.{case1}
+use Rattle.circuit.proofs.Circuits.{versioned, case1}
 use Rattle.circuit.proofs.Refusals.{Line, gives}
 
 files : List Line
@@ -17,8 +17,13 @@ files =
     ∷ gives (readReport (zeros (fileLength + 1))) (report 1 0)
     ∷ gives (writeReport (record { circuit = case1; buffer = zeros (fileLength - 1) })) (report 1 0)
     ∷ gives (writeReport (record { circuit = case1; buffer = zeros fileLength })) done
+    ∷ gives (writeReport (record { circuit = versioned 3 case1; buffer = zeros (fileLength - 1) })) (report 1 0)
+    ∷ gives (writeReport (record { circuit = versioned 3 case1; buffer = zeros fileLength })) (report 3 0)
     ∷ gives (readReport (block 0 [] ++ zeros blockLength ++ zeros blockLength)) (report 2 1)
+    -- version 0 and version 3, whose heading sets a byte that nothing uses; the same at version 2
     ∷ gives (readReport (block 0 [] ++ block 1 [] ++ block 2 [])) (report 3 0)
+    ∷ gives (readReport (block 0 (bytes 2 3 ++ zeros 4 ++ bytes 1 1) ++ block 1 [] ++ block 2 [])) (report 3 0)
+    ∷ gives (readReport (block 0 (bytes 2 2 ++ zeros 4 ++ bytes 1 1) ++ block 1 [] ++ block 2 [])) (report 4 0)
     ∷ []
 
 -- with its first line apart, the table is worked out once, and not once for each side

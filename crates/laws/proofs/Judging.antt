@@ -1,5 +1,5 @@
 -- Laws of judging: a list of rules is tried in order, so it is decided by the first that fails. Where every number is above 0, number 0 says
--- that every rule passes. Each is by induction on the list; set-up's ten rules and those of reading are the instances at the end.
+-- that every rule passes. Each is by induction on the list; set-up's rules and those of reading are the instances at the end.
 use Prim.Native.Nat.{ℕ, zero, suc, _<_}
 use native.Mathlib.Nat.{lt-irrefl}
 use native.Mathlib.Omega.{arith}
@@ -8,10 +8,10 @@ use lib.Dec.{eqb, lit<}
 use mathlib.Core.Path.{_≡_, refl, sym, ap, _∙_, subst}
 use mathlib.Core.Bool.{Bool, true, false, cond}
 use mathlib.Core.List.{List, [], _∷_, _++_}
-use Rattle.circuit.specs.Numbers.{Report, Verdict, passes, fails, Rule, report, done, judge, of, unless}
-use Rattle.circuit.specs.Record.{formRule, rateRule, childrenRule, usedOnceRule, inputAndTapRule, valueRule, recordRules}
+use Rattle.circuit.specs.Numbers.{Report, Verdict, passes, fails, Rule, rule, report, done, judge, of, unless}
+use Rattle.circuit.specs.Record.{versionRule, formRule, rateRule, childrenRule, usedOnceRule, inputAndTapRule, valueRule, recordRules}
 use Rattle.circuit.specs.Curve.{columnRule}
-use Rattle.circuit.specs.SetUp.{portResistanceRule, ratioRule, curveResistanceRule, portRules, setUpRules, setUpReport}
+use Rattle.circuit.specs.SetUp.{portResistanceRule, ratioRule, curveResistanceRule, portRules, circuitRules, setUpRules, setUpReport}
 use Rattle.circuit.specs.File.{recordOf, fileRules, readRules}
 use Rattle.circuit.specs.declared.Record.{Record}
 
@@ -193,6 +193,7 @@ module _ {A B : Type 0} (f : B → A) where
 -- ---- set-up's rules
 
 pub record Passed (r : Record) : Type 0 where
+  pub version : versionRule (r .version) ≡ passes
   pub form : formRule r ≡ passes
   pub rate : rateRule r ≡ passes
   pub childrenLower : childrenRule r ≡ passes
@@ -204,28 +205,40 @@ pub record Passed (r : Record) : Type 0 where
   pub columnRule : columnRule r ≡ passes
   pub curveResistance : curveResistanceRule r ≡ passes
 
+circuit-numbered : Numbered circuitRules
+unfolding circuitRules recordRules portRules
+circuit-numbered = (lit< tt, (lit< tt, (lit< tt, (lit< tt, (lit< tt, (lit< tt, (lit< tt, (lit< tt, (lit< tt, (lit< tt, tt))))))))))
+
 pub set-up-numbered : Numbered setUpRules
-unfolding setUpRules recordRules portRules
-set-up-numbered = (lit< tt, (lit< tt, (lit< tt, (lit< tt, (lit< tt, (lit< tt, (lit< tt, (lit< tt, (lit< tt, (lit< tt, tt))))))))))
+unfolding setUpRules
+set-up-numbered = (lit< tt, circuit-numbered)
+
+-- the version looked at, 4 to 11 are left
+pub version-passed : (r : Record) → versionRule (r .version) ≡ passes → setUpReport r ≡ judge circuitRules r
+unfolding setUpReport setUpRules
+version-passed r = judge-pass (rule 3 (λ s. versionRule (s .version))) circuitRules r
 
 pub pass-passed : (r : Record) → Pass setUpRules r → Passed r
-unfolding setUpRules recordRules portRules
-pass-passed r h = record {
-  form = h .0;
-  rate = h .1 .0;
-  childrenLower = h .1 .1 .0;
-  usedOnce = h .1 .1 .1 .0;
-  inputAndTap = h .1 .1 .1 .1 .0;
-  values = h .1 .1 .1 .1 .1 .0;
-  portResistances = h .1 .1 .1 .1 .1 .1 .0;
-  ratios = h .1 .1 .1 .1 .1 .1 .1 .0;
-  columnRule = h .1 .1 .1 .1 .1 .1 .1 .1 .0;
-  curveResistance = h .1 .1 .1 .1 .1 .1 .1 .1 .1 .0;
-}
+unfolding setUpRules circuitRules recordRules portRules
+pass-passed r h =
+    let k = h .1 in
+    record {
+      version = h .0;
+      form = k .0;
+      rate = k .1 .0;
+      childrenLower = k .1 .1 .0;
+      usedOnce = k .1 .1 .1 .0;
+      inputAndTap = k .1 .1 .1 .1 .0;
+      values = k .1 .1 .1 .1 .1 .0;
+      portResistances = k .1 .1 .1 .1 .1 .1 .0;
+      ratios = k .1 .1 .1 .1 .1 .1 .1 .0;
+      columnRule = k .1 .1 .1 .1 .1 .1 .1 .1 .0;
+      curveResistance = k .1 .1 .1 .1 .1 .1 .1 .1 .1 .0;
+    }
 
 pub passed-pass : (r : Record) → Passed r → Pass setUpRules r
-unfolding setUpRules recordRules portRules
-passed-pass r h = (h .form, (h .rate, (h .childrenLower, (h .usedOnce, (h .inputAndTap, (h .values, (h .portResistances, (h .ratios, (h .columnRule, (h .curveResistance, tt))))))))))
+unfolding setUpRules circuitRules recordRules portRules
+passed-pass r h = (h .version, (h .form, (h .rate, (h .childrenLower, (h .usedOnce, (h .inputAndTap, (h .values, (h .portResistances, (h .ratios, (h .columnRule, (h .curveResistance, tt)))))))))))
 
 pub zero-passed : (r : Record) → setUpReport r .number ≡ 0 → Passed r
 unfolding setUpReport
@@ -245,4 +258,4 @@ set-up-done r e = passed-done r (zero-passed r e)
 
 pub read-numbered : Numbered readRules
 unfolding readRules fileRules
-read-numbered = both-numbered fileRules (of recordOf setUpRules) (lit< tt, (lit< tt, (lit< tt, (lit< tt, tt)))) (of-numbered recordOf setUpRules set-up-numbered)
+read-numbered = both-numbered fileRules (of recordOf circuitRules) (lit< tt, (lit< tt, (lit< tt, (lit< tt, tt)))) (of-numbered recordOf circuitRules circuit-numbered)

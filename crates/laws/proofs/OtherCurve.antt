@@ -110,6 +110,7 @@ module _ (r : Record) (kind : CurveKind) (width : ℕ) (columns : List Column) w
 
   pub still-passed : Passed r → isSet kind ≡ true → width ≡ columnLimit → columnRule changed ≡ passes → Passed changed
   still-passed p set full drawn = record {
+    version = p .version;
     form = form-full (p .form) set full;
     rate = rate-same ∙ p .rate;
     childrenLower = children-same ∙ p .childrenLower;

@@ -11,7 +11,10 @@ use Rattle.circuit.specs.declared.Record.{Record}
 use Rattle.laws.specs.Accepted.{Sized}
 
 pub sized : (r : Record) (vs : List Val) → shadow (Types.the-row .own r vs) → Sized r
-sized r vs h = record {
-  rows = sym (length-map (r .rows) (Rows.the-field .into)) ∙ h .1 .1 .1 .1 .1 .0 .1 .0 .1;
-  columns = sym (length-map (r .columns) (Columns.the-field .into)) ∙ h .1 .1 .1 .1 .1 .1 .1 .1 .0 .1 .0 .1;
-}
+sized r vs h =
+    let rows = h .1 .1 .1 .1 .1 .1 in
+    let columns = rows .1 .1 .1 in
+    record {
+      rows = sym (length-map (r .rows) (Rows.the-field .into)) ∙ rows .0 .1 .0 .1;
+      columns = sym (length-map (r .columns) (Columns.the-field .into)) ∙ columns .0 .1 .0 .1;
+    }

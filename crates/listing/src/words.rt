@@ -50,7 +50,7 @@ pub fn explain(a: Answer, out: &mut Page) -> usize
         b"done\n\
         the file is not 1536 bytes\n\
         a check is wrong; the place is the lowest block\n\
-        the version is not 1\n\
+        the version is neither 1 nor 2\n\
         a count, kind, blank row or column, or unused byte is against the rules\n\
         the rate is outside its limits\n\
         a child is not lower than its adaptor, or a row is not used exactly once; the place is the row, or 255 for the input or the tap\n\

@@ -11,7 +11,7 @@ ghost use mathlib.Core.Bool.{cond};
 ghost use lib.Dec.{eqb};
 ghost use lib.IntN.{pos};
 ghost use Rattle.circuit.specs.Record.{top};
-ghost use Rattle.circuit.specs.Sample.{rounded, sends, partSends};
+ghost use Rattle.circuit.specs.Sample.{Rounding, wholeWaves, sends, partSends};
 ghost use Rattle.circuit.specs.declared.Part.the-variants.{Leaf};
 ghost use Rattle.parts.specs.Parts.{roleOf, turnOf, takenOut, partTaken, mirrorOf};
 
@@ -39,7 +39,7 @@ pub fn role_of(p: Part) -> u8
 }
 
 fn sent(e: Element, stored: i32) -> Wave
-    ensures { λ r. ⌜ r .0 ≡ sends rounded (pos 0) stored e ⌝ }
+    ensures { λ r. ⌜ ((ρ : Rounding) → r .0 ≡ sends (wholeWaves ρ) (pos 0) stored e) ⌝ }
 {
     match e {
         Element::Resistor(_) => Wave(0),
@@ -50,9 +50,9 @@ fn sent(e: Element, stored: i32) -> Wave
     }
 }
 
-// What a row that is no adaptor sends from its stored wave; the input waits for a sample.
+// What a row that is no adaptor sends from its stored wave, however adaptors round; the input waits for a sample.
 pub fn part_sends(part: Part, stored: i32) -> Wave
-    ensures { λ r. ⌜ r .0 ≡ partSends rounded (pos 0) stored part ⌝ }
+    ensures { λ r. ⌜ ((ρ : Rounding) → r .0 ≡ partSends (wholeWaves ρ) (pos 0) stored part) ⌝ }
 {
     match part {
         Part::Blank => Wave(0),

@@ -1,9 +1,9 @@
-// Set-up: rules 4 to 11 of a record, of which `wiring` has 4 to 7, and its prepared rows. The lowest number that applies is handed back, with
+// Set-up: rules 3 to 11 of a record, of which `wiring` has 4 to 7, and its prepared rows. The lowest number that applies is handed back, with
 // its place. The record is laid out once as lists of numbers, and they are lent to every rule.
 
 ghost use mathlib.Core.Path.{_≡_};
-ghost use Rattle.circuit.specs.Numbers.{handed, judge};
-ghost use Rattle.circuit.specs.Record.{recordRules};
+ghost use Rattle.circuit.specs.Numbers.{handed, judge, passes};
+ghost use Rattle.circuit.specs.Record.{versionRule, recordRules};
 ghost use Rattle.circuit.specs.SetUp.{portRules};
 ghost use Rattle.circuit.specs.Run.{freshWaves};
 ghost use Rattle.circuit.specs.Promises.{SetsUp, Finds};
@@ -20,6 +20,7 @@ use circuit::ROWS;
 use circuit::Record;
 use circuit::SetUp;
 use circuit::State;
+use circuit::is_version;
 use sheet::Cells;
 use sheet::Coordinates;
 use sheet::Heading;
@@ -60,7 +61,7 @@ fn refused(a: Answer) -> Ports
     }
 }
 
-// 8 to 11, and the ports where they pass, of a record that 4 to 7 do not refuse.
+// 8 to 11, and the ports where they pass, of a record that 3 to 7 do not refuse.
 fn prepare(
     h: Heading,
     cells: &Cells,
@@ -69,7 +70,8 @@ fn prepare(
     xs: &Coordinates,
     ys: &Coordinates,
 ) -> Ports
-    requires { ⌜ judge recordRules (recordIn h (rowsIn (now cells) (now microvolts) (now values)) (columnsIn (now xs) (now ys))) .number ≡ 0 ⌝ }
+    requires { ⌜ (versionRule (h .version) ≡ passes)
+        × (judge recordRules (recordIn h (rowsIn (now cells) (now microvolts) (now values)) (columnsIn (now xs) (now ys))) .number ≡ 0) ⌝ }
     ensures { λ p. ⌜ Finds (recordIn h (rowsIn (now (cells .entry)) (now (microvolts .entry)) (now (values .entry)))
         (columnsIn (now (xs .entry)) (now (ys .entry)))) p ⌝ }
 {
@@ -99,6 +101,9 @@ pub fn find_ports(
     ensures { λ p. ⌜ Finds (recordIn h (rowsIn (now (cells .entry)) (now (microvolts .entry)) (now (values .entry)))
         (columnsIn (now (xs .entry)) (now (ys .entry)))) p ⌝ }
 {
+    if !is_version(h.version) {
+        return refused(Answer::Version);
+    }
     let answer = wiring::answer(h, cells, microvolts, values, xs, ys);
     if answer.number() != 0 {
         return refused(answer);

@@ -57,7 +57,15 @@ pub record Filled (rows : List Row) (cells : List (List ℕ)) (microvolts : List
   pub value : values ≡ table (λ j. valueOf (rowIn rows j .part)) rowLimit
 
 abbrev pub headingOf : Record → Heading
-headingOf r = record { rate = r .rate; count = r .count; tap = r .tap; kind = r .kind; width = r .width; resistance = r .resistance }
+headingOf r = record {
+  version = r .version;
+  rate = r .rate;
+  count = r .count;
+  tap = r .tap;
+  kind = r .kind;
+  width = r .width;
+  resistance = r .resistance;
+}
 
 -- of a record
 pub record Spread (r : Record) (h : Heading) (cells : List (List ℕ)) (microvolts : List ℤ) (values : List Float) (xs ys : List ℤ) : Type 0 where
@@ -86,6 +94,7 @@ columnIn xs ys i = getD (columnsIn xs ys) i origin
 
 abbrev pub recordIn : Heading → List Row → List Column → Record
 recordIn h rows columns = record {
+  version = h .version;
   rate = h .rate;
   count = h .count;
   tap = h .tap;

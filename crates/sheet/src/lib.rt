@@ -35,6 +35,7 @@ pub type Coordinates = [i32; COLUMNS];
 
 // What a record has beside its rows and columns.
 pub struct Heading {
+    pub version: u16,
     pub rate: u32,
     pub count: u8,
     pub tap: u8,
@@ -172,6 +173,7 @@ pub fn lay(
     lay_rows(rows, cells, microvolts, values);
     lay_columns(columns, xs, ys);
     Heading {
+        version: r.version,
         rate: r.rate,
         count: r.count,
         tap: r.tap,

@@ -1,9 +1,10 @@
 -- DEMAND 3. A finished sample's output and the waves it stores are within 2N² + N + 1 of the unrounded sample's. It is shown for any
--- rounding that errs by at most one, any answer within one of the curve and any curve that moves no further than its input; the paper's
--- rounding, the diode's answer and an accepted curve are one case. The argument gives 2N + 1, which is no more for every N.
+-- rounding that errs by at most one, any answer within one of the curve and any curve that moves no further than its input; the roundings of
+-- both versions, the diode's answer and an accepted curve are cases. The argument gives 2N + 1, which is no more for every N.
 use Prim.Native.Nat.{ℕ, zero, suc, _≤_}
 use native.Mathlib.Omega.{arith}
 use mathlib.Core.Path.{_≡_}
+use mathlib.Core.Bool.{Bool, true, false, cond}
 use mathlib.Core.List.{List}
 use lib.Dec.{eqb}
 use lib.IntN.{ℤ, pos, _+ℤ_, _-ℤ_, _*ℤ_}
@@ -14,7 +15,7 @@ use Rattle.circuit.specs.Numbers.{done}
 use Rattle.circuit.specs.Record.{rowLimit, top, partAt, adaptorsOf, treeOf}
 use Rattle.circuit.specs.SetUp.{parts, ratioAt, setUpReport}
 use Rattle.circuit.specs.Curve.{line, reflected}
-use Rattle.circuit.specs.Sample.{Arithmetic, Rounding, wholeWaves, roundedDown, rounded, unrounded, sends, stores, partSends, partStores, sent, risen, arriving, kept, output, h, finished, storedAt, sampled}
+use Rattle.circuit.specs.Sample.{Arithmetic, Rounding, wholeWaves, roundedDown, roundedToZero, roundingOf, rounded, unrounded, sends, stores, partSends, partStores, sent, risen, arriving, kept, output, h, finished, storedAt, sampled}
 use Rattle.circuit.specs.declared.Element.{Element}
 use Rattle.circuit.specs.declared.Element.the-variants.{Resistor, Capacitor, Inductor, Input, Steady}
 use Rattle.circuit.specs.declared.Part.{Part}
@@ -23,6 +24,7 @@ use Rattle.circuit.specs.declared.Record.{Record}
 use Rattle.laws.specs.Accepted.{Sized, Accepted}
 use Rattle.laws.proofs.Accepting.{accepting}
 use Rattle.laws.proofs.Counting.{getD-table}
+use Rattle.laws.proofs.Truncated.{toward-zero-near}
 use Rattle.laws.proofs.Drawn.{line-moves, answer-near}
 use Rattle.laws.proofs.Adaptors.{u-rounds, b1-rounds}
 use Rattle.laws.proofs.Playing.{finished-means}
@@ -110,14 +112,28 @@ module _ (ρ : Rounding) where
         (near-le (omega arith) (near-add risen-near (echo-leaf risen-near diode)))
         (near-le (omega arith) (near-add (sent-near (r .tap)) (arriving-near (r .tap))))
 
--- ---- the paper's rounding, the diode's answer and an accepted curve
+-- ---- the rounding of every version, the diode's answer and an accepted curve
 
-pub rounded-down-errs : ErrsByOne roundedDown
+rounded-down-errs : ErrsByOne roundedDown
 unfolding h
 rounded-down-errs = record {
   u = λ g a1 a2. u-rounds g parts parts-above-zero a1 a2 (floor-rounds (pos g *ℤ (a1 -ℤ a2)) parts (omega arith));
   b1 = λ g a1 a2 a3. b1-rounds g parts parts-above-zero a1 a2 a3 (floor-rounds (pos g *ℤ (a1 +ℤ a2 +ℤ a3)) parts (omega arith));
 }
+
+rounded-to-zero-errs : ErrsByOne roundedToZero
+rounded-to-zero-errs = record {
+  u = λ g a1 a2. toward-zero-near (unrounded .u g (whole a1) (whole a2));
+  b1 = λ g a1 a2 a3. toward-zero-near (unrounded .b1 g (whole a1) (whole a2) (whole a3));
+}
+
+pub rounding-errs : (version : ℕ) → ErrsByOne (roundingOf version)
+unfolding roundingOf
+rounding-errs version = by (eqb version 1)
+  where
+    by : (first : Bool) → ErrsByOne (cond first roundedDown roundedToZero)
+    by true = rounded-down-errs
+    by false = rounded-to-zero-errs
 
 reflected-follows : (r : Record) → Follows (reflected r) (line r)
 reflected-follows r = record { near = answer-near r }
@@ -139,10 +155,12 @@ module _ (r : Record) (sized : Sized r) (accepted : setUpReport r ≡ done) (wav
   sharper =
       let a = accepting r sized accepted in
       let f = finished-means r waves x v next works in
+      let ρ = roundingOf (r .version) in
+      let errs = rounding-errs (r .version) in
       record {
-        out = rw (← f .out) (output-near roundedDown rounded-down-errs (reflected-follows r) (line-gently a) a (storedAt waves) x);
-        stored = λ j l. rw (← f .stored, getD-table (kept rounded (reflected r) r (storedAt waves) x) rowLimit j (pos 0) l)
-            (kept-near roundedDown rounded-down-errs (reflected-follows r) (line-gently a) a (storedAt waves) x j);
+        out = rw (← f .out) (output-near ρ errs (reflected-follows r) (line-gently a) a (storedAt waves) x);
+        stored = λ j l. rw (← f .stored, getD-table (kept (rounded r) (reflected r) r (storedAt waves) x) rowLimit j (pos 0) l)
+            (kept-near ρ errs (reflected-follows r) (line-gently a) a (storedAt waves) x j);
       }
 
   pub demand3 : Within (limit (adaptorsOf r)) r waves x v next

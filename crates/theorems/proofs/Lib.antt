@@ -6,3 +6,5 @@ pub mod RunBound
 pub mod Curve
 pub mod OneAnswer
 pub mod Knee
+pub mod Odd
+pub mod Opposite

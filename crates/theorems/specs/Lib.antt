@@ -4,3 +4,4 @@ pub mod Pieces
 pub mod Takes
 pub mod Curve
 pub mod Knee
+pub mod Opposite

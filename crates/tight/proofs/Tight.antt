@@ -1,8 +1,8 @@
--- 2N + 1 is the least whole bound, for the output at every N that a circuit can have, and for a stored wave at every one above 0; at 0
+-- 2N + 1 is the least whole bound in either version, for the output at every N that a circuit can have, and for a stored wave at every one above 0; at 0
 -- nothing is stored. The input stands in a chain of N parallel adaptors with N − 1 resistors and, at the top, a capacitor. Each adaptor
--- takes all but one part of 2^24 from the chain below it, and rounds its wave down by nearly one; so does the diode, whose curve is one
+-- takes all but one part of 2^24 from the chain below it, and rounds its wave, which is above 0, down by nearly one, and so toward zero; so does the diode, whose curve is one
 -- microvolt short of straight at its end. Every one of these errors goes the same way, up and back, and every leaf gets them all.
-use Prim.Native.Nat.{ℕ, zero, suc, _+_, _-_, _*_, _≤_}
+use Prim.Native.Nat.{ℕ, zero, suc, _+_, _-_, _*_, _<_, _≤_}
 use native.Mathlib.Omega.{arith}
 use mathlib.Core.Path.{_≡_, refl, sym, ap, _∙_}
 use mathlib.Core.Bool.{Bool, true, false, _&&_, _||_, and-eq-true-iff}
@@ -15,7 +15,7 @@ use lib.Ieee.{fin}
 use Rattle.whole.specs.Fraction.{Fraction}
 use Rattle.whole.specs.Nearness.{near-le}
 use Rattle.circuit.specs.Counting.{within, every, total, one, table}
-use Rattle.circuit.specs.Record.{rowLimit, columnLimit, sourceLimit, top, partAt, isInput, inputs, adaptorsOf}
+use Rattle.circuit.specs.Record.{rowLimit, columnLimit, lastVersion, sourceLimit, top, partAt, isInput, inputs, adaptorsOf}
 use Rattle.circuit.specs.SetUp.{parts, setUpReport}
 use Rattle.circuit.specs.Curve.{waveLimit, reflected}
 use Rattle.circuit.specs.Sample.{Arithmetic, stores, partStores, arriving, kept, output, rounded, inLimit, storedAt, sampled}
@@ -27,7 +27,7 @@ use Rattle.circuit.specs.declared.Part.{Part}
 use Rattle.circuit.specs.declared.Part.the-variants.{Blank, Leaf, Adaptor}
 use Rattle.circuit.specs.declared.Record.{Record}
 use Rattle.circuit.proofs.Working.{working}
-use Rattle.circuit.proofs.Circuits.{ohms, input, resistor, capacitor, joins, column, circuit}
+use Rattle.circuit.proofs.Circuits.{ohms, input, resistor, capacitor, joins, column, circuit, versioned}
 use Rattle.laws.specs.Accepted.{adaptorLimit, Accepted}
 use Rattle.laws.proofs.Counting.{every-on, every-true, getD-table}
 use Rattle.laws.proofs.Judging.{set-up-done}
@@ -68,9 +68,10 @@ unfoldable links : ℕ → ℕ → List Part
 links zero j = []
 links (suc n) j = sibling n ∷ joins Parallel j (j + 1) ∷ links n (j + 2)
 
-unfoldable chain : ℕ → Record
-chain n =
-    circuit (input (ohms 1) ∷ links n 0) top Pair (column (pos 0) (pos 0) ∷ column (pos waveLimit) (pos (waveLimit - 1)) ∷ []) (ohms 1)
+unfoldable chain : ℕ → ℕ → Record
+chain version n =
+    versioned version
+    (circuit (input (ohms 1) ∷ links n 0) top Pair (column (pos 0) (pos 0) ∷ column (pos waveLimit) (pos (waveLimit - 1)) ∷ []) (ohms 1))
 
 -- ---- what is worked out for each n
 
@@ -86,70 +87,86 @@ far-beyond E a q e = record {
       omega (arith, ltb-true ((E - 1) * q .den) (natAbs (a *ℤ pos (q .den) -ℤ q .num)) e, n .near);
 }
 
-module _ (n : ℕ) where
-  abbrev x : ℤ
-  x = pos (suc n)
+abbrev x : ℕ → ℤ
+x n = pos (suc n)
+
+module _ (version n : ℕ) where
+  abbrev r : Record
+  r = chain version n
 
   -- the capacitor's row, where there is one
   abbrev capacitorRow : ℕ
   capacitorRow = 2 * n - 1
 
   abbrev out : ℤ
-  out = output rounded (reflected (chain n)) (chain n) (storedAt freshWaves) x
+  out = output (rounded r) (reflected r) r (storedAt freshWaves) (x n)
 
   abbrev left : ℕ → ℤ
-  left = kept rounded (reflected (chain n)) (chain n) (storedAt freshWaves) x
+  left = kept (rounded r) (reflected r) r (storedAt freshWaves) (x n)
 
   abbrev straysOut : Bool
-  straysOut = far (leastLimit n) out (exactOutput (chain n) freshWaves x)
+  straysOut = far (leastLimit n) out (exactOutput r freshWaves (x n))
 
   abbrev straysLeft : Bool
-  straysLeft = far (leastLimit n) (left capacitorRow) (exactKept (chain n) freshWaves x capacitorRow)
+  straysLeft = far (leastLimit n) (left capacitorRow) (exactKept r freshWaves (x n) capacitorRow)
 
   unfoldable strays : Bool
   strays =
-      eqb (length (chain n .rows)) rowLimit && (eqb (length (chain n .columns)) columnLimit && (eqb (setUpReport (chain n) .number) 0
-      && (eqb (adaptorsOf (chain n)) n && (within sourceLimit x && (inLimit (chain n) freshWaves x && (straysOut && (eqb n 0 || straysLeft)))))))
+      eqb (length (r .rows)) rowLimit && (eqb (length (r .columns)) columnLimit && (eqb (setUpReport r .number) 0
+      && (eqb (adaptorsOf r) n && (within sourceLimit (x n) && (inLimit r freshWaves (x n) && (straysOut && (eqb n 0 || straysLeft)))))))
 
--- by computation, in two parts: the checker has a limit of steps for each
-abbrev low : ℕ
-low = 13
+-- of each version; its number is one more than v
+abbrev eachStrays : ℕ → Bool
+eachStrays n = every (λ v. strays (suc v) n) lastVersion
 
-strays-low : every strays low ≡ true
+-- by computation, in parts: the checker has a limit of steps for each
+strays-low : every eachStrays 11 ≡ true
 unfolding working sibling links chain far strays
 strays-low = refl
 
-strays-high : every (λ k. strays (low + k)) (suc adaptorLimit - low) ≡ true
+strays-high : every (λ k. eachStrays (11 + k)) 3 ≡ true
 unfolding working sibling links chain far strays
 strays-high = refl
 
-found : (n : ℕ) → n ≤ adaptorLimit → strays n ≡ true → Strays n
-unfolding strays sampled
-found n most e =
-    let rows = and-eq-true-iff _ _ .0 e in
-    let columns = and-eq-true-iff _ _ .0 (rows .1) in
-    let report = and-eq-true-iff _ _ .0 (columns .1) in
-    let adaptors = and-eq-true-iff _ _ .0 (report .1) in
-    let source = and-eq-true-iff (within sourceLimit (x n)) _ .0 (adaptors .1) in
-    let limit = and-eq-true-iff (inLimit (chain n) freshWaves (x n)) _ .0 (source .1) in
-    let far = and-eq-true-iff (straysOut n) _ .0 (limit .1) in
-    record {
-      circuit = chain n;
-      sized = record { rows = eqb-true (length (chain n .rows)) rowLimit (rows .0); columns = eqb-true (length (chain n .columns)) columnLimit (columns .0) };
-      accepted = set-up-done (chain n) (eqb-true (setUpReport (chain n) .number) 0 (report .0));
-      adaptors = eqb-true (adaptorsOf (chain n)) n (adaptors .0);
-      sample = x n;
-      out = out n;
-      next = table (left n) rowLimit;
-      works = rw (source .0, limit .0) refl;
-      output = far-beyond (leastLimit n) (out n) (exactOutput (chain n) freshWaves (x n)) (far .0);
-      row = capacitorRow n;
-      stored = λ l.
-          rw (getD-table (left n) rowLimit (capacitorRow n) (pos 0) (omega arith))
-          (far-beyond (leastLimit n) (left n (capacitorRow n)) (exactKept (chain n) freshWaves (x n) (capacitorRow n)) (rw (ne-eqb n 0 (λ z. omega arith)) at far .1));
-    }
+strays-top : every (λ k. eachStrays (14 + k)) 2 ≡ true
+unfolding working sibling links chain far strays
+strays-top = refl
 
-pub tight : (n : ℕ) → n ≤ adaptorLimit → Strays n
-tight n l =
-    let all = every-on strays low (suc adaptorLimit - low) strays-low strays-high in
-    found n l (every-true strays (suc adaptorLimit) all n (omega arith))
+module _ (version n : ℕ) (most : n ≤ adaptorLimit) (e : strays version n ≡ true) where
+  abbrev c : Record
+  c = chain version n
+
+  found : Strays version n
+  unfolding strays chain sampled
+  found =
+      let rows = and-eq-true-iff _ _ .0 e in
+      let columns = and-eq-true-iff _ _ .0 (rows .1) in
+      let report = and-eq-true-iff _ _ .0 (columns .1) in
+      let adaptors = and-eq-true-iff _ _ .0 (report .1) in
+      let source = and-eq-true-iff (within sourceLimit (x n)) _ .0 (adaptors .1) in
+      let limit = and-eq-true-iff (inLimit c freshWaves (x n)) _ .0 (source .1) in
+      let far = and-eq-true-iff (straysOut version n) _ .0 (limit .1) in
+      let row = capacitorRow version n in
+      record {
+        circuit = c;
+        versioned = refl;
+        sized = record { rows = eqb-true (length (c .rows)) rowLimit (rows .0); columns = eqb-true (length (c .columns)) columnLimit (columns .0) };
+        accepted = set-up-done c (eqb-true (setUpReport c .number) 0 (report .0));
+        adaptors = eqb-true (adaptorsOf c) n (adaptors .0);
+        sample = x n;
+        out = out version n;
+        next = table (left version n) rowLimit;
+        works = rw (source .0, limit .0) refl;
+        output = far-beyond (leastLimit n) (out version n) (exactOutput c freshWaves (x n)) (far .0);
+        row = row;
+        stored = λ l.
+            rw (getD-table (left version n) rowLimit row (pos 0) (omega arith))
+            (far-beyond (leastLimit n) (left version n row) (exactKept c freshWaves (x n) row) (rw (ne-eqb n 0 (λ z. omega arith)) at far .1));
+      }
+
+pub tight : (version n : ℕ) → 0 < version → version ≤ lastVersion → n ≤ adaptorLimit → Strays version n
+tight zero n some few l = absurd (omega arith)
+tight (suc v) n some few l =
+    let all = every-on eachStrays 14 2 (every-on eachStrays 11 3 strays-low strays-high) strays-top in
+    let each = every-true eachStrays (suc adaptorLimit) all n (omega arith) in
+    found (suc v) n l (every-true (λ i. strays (suc i) n) lastVersion each v (omega arith))

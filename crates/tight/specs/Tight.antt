@@ -1,4 +1,4 @@
--- That no whole bound below 2N + 1 will do, for any N that a circuit can have.
+-- That no whole bound below 2N + 1 will do, for any version and any N that a circuit can have.
 use Prim.Native.Nat.{ℕ, _<_}
 use mathlib.Core.Path.{_≡_}
 use mathlib.Core.List.{List}
@@ -18,10 +18,11 @@ use Rattle.theorems.specs.Limit.{leastLimit, exactOutput, exactKept}
 pub record Beyond (E : ℕ) (a : ℤ) (q : Fraction) : Type 0 where
   pub beyond : (F : ℕ) → F < E → Near F a q → ⊥
 
--- An accepted circuit of n adaptors, and a sample from a fresh state that strays as far as any may: its output, and the wave that a row
+-- An accepted circuit of a version and n adaptors, and a sample from a fresh state that strays as far as any may: its output, and the wave that a row
 -- stores. With no adaptor the only row is the input, which stores nothing.
-pub record Strays (n : ℕ) : Type 0 where
+pub record Strays (version n : ℕ) : Type 0 where
   pub circuit : Record
+  pub versioned : circuit .version ≡ version
   pub sized : Sized circuit
   pub accepted : setUpReport circuit ≡ done
   pub adaptors : adaptorsOf circuit ≡ n

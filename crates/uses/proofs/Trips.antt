@@ -5,17 +5,19 @@ use native.Mathlib.Decide.{ℕ-discrete}
 use native.Mathlib.Omega.{arith}
 use borrow.Author.Tests.{eq-eqb, ne-eqb}
 use mathlib.Core.Path.{_≡_, refl, sym, ap, _∙_}
-use mathlib.Core.Bool.{cond}
+use mathlib.Core.Bool.{true≢false, cond}
 use mathlib.Core.List.{List, [], _∷_}
 use lib.Dec.{eqb}
 use lib.ListN.{length, length-replicate}
 use Rattle.circuit.specs.Numbers.{Report, Rule, handed, report, done, rule, judge, of, unless}
+use Rattle.circuit.specs.Record.{versionRule}
 use Rattle.circuit.specs.SetUp.{setUpReport}
 use Rattle.circuit.specs.File.{zeros, fileLength, numberOf, recordOf, noRecord, fileLengthRule, fileOf, readRules, readReport, readRecord, bufferAfter}
 use Rattle.circuit.specs.Promises.{Reads, Writes}
 use Rattle.circuit.specs.declared.Answer.{Answer}
 use Rattle.circuit.specs.declared.Reading.{Reading}
 use Rattle.circuit.specs.declared.Record.{Record}
+use Rattle.laws.proofs.Counting.{unless-passes}
 use Rattle.laws.proofs.Judging.{judge-fail, pass-done, judge-rest, judge-stop, judge-of, of-numbered, zero-pass, zero-done, set-up-done, read-numbered}
 use Rattle.blocks.specs.Placing.{Bytes}
 use Rattle.blocks.proofs.Judged.{judged-sound}
@@ -79,8 +81,8 @@ module _ {w : RewriteCall} {got : Reading} (read : Reads (w .file) got) where
 
 -- the version of a blank page is 0
 blank-refused : readReport (zeros fileLength) .number ≡ 0 → ⊥
-unfolding numberOf
-blank-refused e = let v = judged-sound (zeros fileLength) (read-judged (zeros fileLength) e) .version in omega arith
+unfolding numberOf versionRule
+blank-refused e = true≢false (sym (unless-passes _ 0 (judged-sound (zeros fileLength) (read-judged (zeros fileLength) e) .version)))
 
 module _ {r : Record} (held : Held r) {page : List ℕ} (blank : page ≡ zeros fileLength)
     {a : Answer} {after : List ℕ} (written : Writes (record { circuit = r; buffer = page }) a after) {got : Reading} (read : Reads after got) where

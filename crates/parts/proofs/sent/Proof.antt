@@ -16,7 +16,7 @@ unfolding sends
 sent-spec =
     tie.close
     (tie.spec (λ c. search needs) (λ c. search needs) (λ c. widened (c .before .before .fits .stored)) (λ c. search needs)
-    (λ c. widened (c .before .before .fits .stored)) (λ c. search needs) (λ c. search needs) (λ c. widened (own c)) (λ c. rw (c .enum-told .given .1))
-    (λ c. rw (c .enum-told2 .given .1) (wide-same (c .before .before .fits .stored)))
-    (λ c. rw (c .enum-told3 .given .1) (wide-same (c .before .before .fits .stored))) (λ c. rw (c .enum-told4 .given .1))
-    (λ c. rw (c .before .e .given .1) (wide-same (own c))))
+    (λ c. widened (c .before .before .fits .stored)) (λ c. search needs) (λ c. search needs) (λ c. widened (own c)) (λ c ρ. rw (c .enum-told .given .1))
+    (λ c ρ. rw (c .enum-told2 .given .1) (wide-same (c .before .before .fits .stored)))
+    (λ c ρ. rw (c .enum-told3 .given .1) (wide-same (c .before .before .fits .stored))) (λ c ρ. rw (c .enum-told4 .given .1))
+    (λ c ρ. rw (c .before .e .given .1) (wide-same (own c))))

@@ -24,7 +24,7 @@ given c =
     recordIn (g .h) (rowsIn (g .cells .now) (g .microvolts .now) (g .values .now)) (columnsIn (g .xs .now) (g .ys .now))
 
 rooted : (c : tie.Start) → Rooted (given c)
-rooted c = record-shows (given c) (sheet-sized _ _ _ _ _ _) (c .pre)
+rooted c = record-shows (given c) (sheet-sized _ _ _ _ _ _) (c .pre .1)
 
 -- ---- places of the walk: where the function begins, and where the ports are filled
 
@@ -35,7 +35,7 @@ abbrev filled : tie.After-port-answer → tie.After-fill-ports
 filled c = c .before .before .before
 
 told : (c : tie.After-port-answer) → handed (c .port-answer .result) ≡ setUpReport (given (start (filled c)))
-told c = c .port-answer .ensures ∙ sym (set-up-judged (given (start (filled c))) ∙ else-next _ _ (start (filled c) .pre))
+told c = c .port-answer .ensures ∙ sym (set-up-judged (given (start (filled c))) (start (filled c) .pre .0) ∙ else-next _ _ (start (filled c) .pre .1))
 
 fill-ports-requires : tie.Need-fill-ports-requires
 fill-ports-requires c κs = ((_, rooted (c .before .before)), record { resistances = refl; ratios = refl })

@@ -1,6 +1,7 @@
 -- Each field is read at its place.
 use borrow.Author.Needs.{needs}
-use Rattle.circuit.specs.File.{recordOf}
+use mathlib.Core.Path.{ap, _∙_}
+use Rattle.circuit.specs.File.{kindOf, recordOf}
 use Rattle.blocks.proofs.heading.record_of.Statement.{statement}
 use Rattle.blocks.proofs.heading.record_of.Tie as tie
 
@@ -11,22 +12,24 @@ returns c =
     let kind = columns .before .before in
     let rows = kind .before .before in
     let count = rows .before .before in
-    rw (
-      count .before .word .ensures,
-      count .byte .ensures,
-      rows .before .byte2 .ensures,
-      rows .rows .ensures,
-      kind .kind-of .ensures,
-      kind .before .byte3 .ensures,
-      columns .before .byte4 .ensures,
-      columns .columns .ensures,
-      c .float .ensures,
-    )
+    let rate = count .before in
+    λ i. record {
+      version = rate .before .pair .ensures i;
+      rate = rate .word .ensures i;
+      count = count .byte .ensures i;
+      tap = rows .before .byte2 .ensures i;
+      rows = rows .rows .ensures i;
+      kind = (kind .kind-of .ensures ∙ ap kindOf (kind .before .byte3 .ensures)) i;
+      width = columns .before .byte4 .ensures i;
+      columns = columns .columns .ensures i;
+      resistance = c .float .ensures i;
+    }
 
 pub record-of-spec : {M : Type 1} → statement M
 record-of-spec =
     tie.close
     (tie.spec
+    (λ c κs. search needs)
     (λ c κs. search needs)
     (λ c κs. search needs)
     (λ c κs. search needs)

@@ -88,13 +88,14 @@ returns c =
       record {
         accepted = h .accepted;
         slotted = h .slotted;
-        adaptors = shape .0;
-        reactive = shape .1 ∙ reactive (s .before) ∙ ap (rank (r .rows) 0) (sym same);
-        tap = shape .2;
-        mirror = shape .3;
+        rounds = shape .0;
+        adaptors = shape .1;
+        reactive = shape .2 ∙ reactive (s .before) ∙ ap (rank (r .rows) 0) (sym same);
+        tap = shape .3;
+        mirror = shape .4;
         staged = at-joints t .lay-joints .ensures r refl same h;
         turn = λ j l. t .turns-of .ensures r (seated s) j (omega arith);
-        drawn = rw (shape .4 ∙ sym (w .wide2 .ensures)) (lines .lay-lines .ensures r refl (sym (w .wide2 .ensures)) (h .accepted .drawn) (narrow w));
+        drawn = rw (shape .5 ∙ sym (w .wide2 .ensures)) (lines .lay-lines .ensures r refl (sym (w .wide2 .ensures)) (h .accepted .drawn) (narrow w));
       },
       h,
     )

@@ -1,17 +1,19 @@
 -- `shape_of` meets its contract: 2N + 1 rows have N adaptors, and the tap's row is in use.
-use Prim.Native.Nat.{_-_}
+use Prim.Native.Nat.{ℕ, _-_}
 use native.Mathlib.Omega.{arith}
-use mathlib.Core.Path.{_≡_, refl, ap, _∙_}
-use mathlib.Core.Bool.{cond}
+use mathlib.Core.Path.{_≡_, refl, sym, ap, _∙_}
+use mathlib.Core.Bool.{Bool, true, false, not, cond}
 use lib.Dec.{eqb}
 use lib.ListN.{getD}
 use borrow.Author.Needs.{needs}
 use Rattle.whole.specs.Signed.{returned}
 use Rattle.circuit.specs.Record.{top}
+use Rattle.circuit.specs.Sample.{roundedDown, roundedToZero, roundingOf}
 use Rattle.circuit.specs.declared.Record.{Record}
 use Rattle.sheet.specs.Sheet.{headingOf}
 use Rattle.sheet.specs.declared.Heading.{Heading}
 use Rattle.parts.specs.Parts.{mirrorOf}
+use Rattle.engine.specs.Wave.{way}
 use Rattle.engine.specs.Plan.{tapRow}
 use Rattle.engine.proofs.Laying.{tap-inside}
 use Rattle.engine.proofs.plan.shape_of.Statement.{statement}
@@ -27,17 +29,28 @@ read c r e =
     c .tap-row .ensures ∙ ap (λ n. cond (eqb tap top) (n - 1) tap) (count (c .before) r e)
     ∙ ap (λ (h : Heading). cond (eqb (h .tap) top) (r .count - 1) (h .tap)) e
 
+-- what version 1 rounds down every later one rounds toward zero
+rounding : (version : ℕ) → roundingOf version ≡ way (not (eqb version 1))
+unfolding roundingOf
+rounding version = by (eqb version 1)
+  where
+    by : (b : Bool) → cond b roundedDown roundedToZero ≡ way (not b)
+    by true = refl
+    by false = refl
+
 element-copy-out-wide : tie.Need-element-copy-out-wide
 element-copy-out-wide c =
-    let p = c .before .before .pre in
+    let at = c .before in
+    let p = at .before .before .pre in
     let acc = p .3 .accepted in
-    omega (arith, read c (p .0) (p .2), tap-inside (p .0) acc, acc .short)
+    omega (arith, read at (p .0) (p .2), tap-inside (p .0) acc, acc .short)
 
 returns : tie.Need-returns
 returns c r prepared e h =
     let read-slot = c .before .before in
-    let at = read-slot .before .before in
+    let at = read-slot .before .before .before in
     let slots = at .before .before .args .slots .now in (
+      rounding (r .version) ∙ ap way (sym (ap (λ (h : Heading). not (eqb (h .version) 1)) e)),
       omega (arith, count (at .before) r e, h .accepted .odd),
       refl,
       read-slot .wide2 .ensures ∙ ap (λ j. getD slots j 0) (read at r e) ∙ h .slot (tapRow r) (tap-inside r (h .accepted)),

@@ -8,7 +8,7 @@ use mir.Syntax.{w32}
 use mir.Val.{SFits}
 use mir.Facts.{toZ-ofZ}
 use Rattle.whole.specs.Signed.{returned}
-use Rattle.circuit.specs.Sample.{rounded, partSends, storedAt}
+use Rattle.circuit.specs.Sample.{Rounding, wholeWaves, roundingOf, partSends, storedAt}
 use Rattle.circuit.specs.Record.{rowLimit}
 use Rattle.sheet.specs.Sheet.{partIn}
 use Rattle.engine.proofs.Loading.{loaded}
@@ -19,13 +19,13 @@ use Rattle.engine.proofs.play.load.Tie as tie
 abbrev Inv-loop : tie.InvT-loop
 Inv-loop count cells microvolts values slots state up₀ i₀ up i =
     Own slots count × (i ≤ count)
-    × Placed (pos 0) slots (λ j. partSends rounded (pos 0) (storedAt (state .waves) j) (partIn cells microvolts values j)) i up
+    × ((ρ : Rounding) → Placed (pos 0) slots (λ j. partSends (wholeWaves ρ) (pos 0) (storedAt (state .waves) j) (partIn cells microvolts values j)) i up)
 
 abbrev μ-loop : tie.MeasureT-loop
 μ-loop count cells microvolts values slots state up₀ i₀ up i = count - i
 
 loop-holds : tie.Need-loop-holds Inv-loop μ-loop
-loop-holds c = (laid-own (c .pre .1 .many) (c .pre .1 .layable), omega arith, placed-start refl)
+loop-holds c = (laid-own (c .pre .1 .many) (c .pre .1 .layable), omega arith, λ ρ. placed-start refl)
 
 module _ (c : tie.After-slot-at Inv-loop μ-loop) where
   abbrev sent : tie.After-part-sends Inv-loop μ-loop
@@ -48,9 +48,14 @@ loop-again c =
     let inv = at-loop c .loop .inv in
     let call = sent c in
     let stored : SFits w32 (storedAt (a .t6 .waves) i) = record { sfits = call .before .part-sends-arg .given } in
-    let sends = rw (toZ-ofZ stored) at (call .part-sends .ensures) ∙ ap (partSends rounded (pos 0) (storedAt (a .t6 .waves) i)) (at-part c .part-at .ensures) in
-    let wave = returned (call .part-sends .result .0) (c .before .struct-told .given .0 .1) ∙ sends in
-    (inv .0, omega arith, placed-more (inv .0) (omega arith) (c .slot-at .ensures) wave (inv .2))
+    let wave = returned (call .part-sends .result .0) (c .before .struct-told .given .0 .1) in (
+      inv .0,
+      omega arith,
+      λ ρ.
+          let sends =
+          rw (toZ-ofZ stored) at (call .part-sends .ensures ρ) ∙ ap (partSends (wholeWaves ρ) (pos 0) (storedAt (a .t6 .waves) i)) (at-part c .part-at .ensures) in
+          placed-more (inv .0) (omega arith) (c .slot-at .ensures) (wave ∙ sends) (inv .2 ρ),
+    )
 
 -- a state that code holds has a wave for each row
 returns : tie.Need-returns Inv-loop μ-loop
@@ -60,7 +65,7 @@ returns c r seat waves =
     let done : turn .loop .i ≡ start .args .count = omega arith in
     let held = start .good .1 .1 .1 .1 .1 .0 in
     let size = sym (length-map (start .args .t6 .waves) (λ v. v)) ∙ held .1 .1 .0 .1 .0 .1 in
-    loaded seat size waves (rw done at (turn .loop .inv .2))
+    loaded seat size waves (rw done at (turn .loop .inv .2 (roundingOf (r .version))))
 
 pub load-spec : {M : Type 1} → statement M
 load-spec =

@@ -46,7 +46,7 @@ heard : {b : Bool} {x : ℤ} → SFits w32 x → b ≡ within sourceLimit (toZ w
 heard f e h = not-false _ (rw (e, toZ-ofZ f) at h)
 
 lifting : {shape : Shape} {js : Joints} {turns ups ds : List ℤ} {lines : List (List ℤ)} {x : ℤ} → LaidOut (planOf shape js turns lines) ups ds
-    → SFits w32 x → within sourceLimit x ≡ true → Climbs js (shape .adaptors) (set ups floor (wide x))
+    → SFits w32 x → within sourceLimit x ≡ true → Climbs (shape .inward) js (shape .adaptors) (set ups floor (wide x))
 lifting {x = x} k f q = rw (wide-same f) (Sampling.climbs k x q)
 
 sweep-up-requires : tie.Need-sweep-up-requires
@@ -64,7 +64,7 @@ module _ (c : tie.After-sweep-up) where
   start = c .before .before .before .before
 
   abbrev above : List ℤ
-  above = c .sweep-up .last .1 .1 .1 .1 .1 .0
+  above = c .sweep-up .last .1 .1 .1 .1 .1 .1 .0
 
   abbrev wave : ℤ
   wave = storedAt above (floor + start .args .shape .adaptors)
@@ -100,7 +100,7 @@ module _ (c : tie.After-struct-told) where
   calm = not-false _ (rw (tested (c .before .before)) at (c .before .if2 .left))
 
   mirror-fits : SFits w64 (start at-up .args .shape .mirror)
-  mirror-fits = record { sfits = c .struct-told .given .1 .1 .1 .0 .1 }
+  mirror-fits = record { sfits = c .struct-told .given .1 .1 .1 .1 .0 .1 }
 
 reflect-requires : tie.Need-reflect-requires
 reflect-requires c κs =
@@ -136,7 +136,7 @@ module _ (c : tie.After-sweep-down) where
   begun = start (risen at-diode)
 
   landed : (k : Laid begun)
-      → Landed (plan begun) (k .circuit) (k .stored) (begun .args .x) (above (risen at-diode)) (c .sweep-down .last .1 .1 .1 .1 .1 .1 .0)
+      → Landed (plan begun) (k .circuit) (k .stored) (begun .args .x) (above (risen at-diode)) (c .sweep-down .last .1 .1 .1 .1 .1 .1 .1 .0)
   landed k =
       let h = raised (risen at-diode) k in
       let down = rw (toZ-ofZ (answer-fits (c .before .before .before))) at (c .sweep-down .ensures) in

@@ -18,13 +18,13 @@ use Rattle.engine.proofs.sweep.sweep_down.Statement.{statement}
 use Rattle.engine.proofs.sweep.sweep_down.Tie as tie
 
 abbrev Inv-loop : tie.InvT-loop
-Inv-loop joins firsts seconds ratios n up down₀ slot₀ down slot =
+Inv-loop inward joins firsts seconds ratios n up down₀ slot₀ down slot =
     (slot ≤ floor + n)
-    × ((p : Drops (jointsOf joins firsts seconds ratios) n up down₀)
+    × ((p : Drops inward (jointsOf joins firsts seconds ratios) n up down₀)
     → Falling (p .swept .circuit) (p .swept .wave) (storedAt down₀ (topSlot (p .swept .circuit))) slot down)
 
 abbrev μ-loop : tie.MeasureT-loop
-μ-loop joins firsts seconds ratios n up down₀ slot₀ down slot = slot
+μ-loop inward joins firsts seconds ratios n up down₀ slot₀ down slot = slot
 
 -- a turn's own slot, and the adaptor's place
 module _ (c : tie.In-loop Inv-loop μ-loop) where
@@ -54,7 +54,7 @@ module _ (c : tie.After-ratio-at Inv-loop μ-loop) where
   abbrev slots : Bool → ℕ
   slots side = cond side (second .before .child-at .result) (second .child-at2 .result)
 
-  seen : let a = start in-turn .args in (s : Swept (jointsOf (a .joins .now) (a .firsts .now) (a .seconds .now) (a .ratios .now)) (a .n))
+  seen : let a = start in-turn .args in (s : Swept (a .inward) (jointsOf (a .joins .now) (a .firsts .now) (a .seconds .now) (a .ratios .now)) (a .n))
       → Turn (s .circuit) (own in-turn) (c .before .join-at .result) slots (toZ w64 (ofZ w64 (c .ratio-at .result)))
   seen s =
       turn s (omega (arith, in-turn .loop-test .taken, at-loop in-turn .loop .inv .0)) (omega (arith, in-turn .loop-test .taken))

@@ -17,11 +17,11 @@ use Rattle.engine.proofs.sweep.sweep_up.Statement.{statement}
 use Rattle.engine.proofs.sweep.sweep_up.Tie as tie
 
 abbrev Inv-loop : tie.InvT-loop
-Inv-loop joins firsts seconds ratios n up₀ k₀ up k =
-    (k ≤ n) × ((p : Climbs (jointsOf joins firsts seconds ratios) n up₀) → Risen (p .swept .circuit) (p .swept .wave) (suc floor + k) up)
+Inv-loop inward joins firsts seconds ratios n up₀ k₀ up k =
+    (k ≤ n) × ((p : Climbs inward (jointsOf joins firsts seconds ratios) n up₀) → Risen (p .swept .circuit) (p .swept .wave) (suc floor + k) up)
 
 abbrev μ-loop : tie.MeasureT-loop
-μ-loop joins firsts seconds ratios n up₀ k₀ up k = n - k
+μ-loop inward joins firsts seconds ratios n up₀ k₀ up k = n - k
 
 -- there are few adaptors
 few : (c : tie.In-loop Inv-loop μ-loop) → c .before .loop .k < adaptorLimit
@@ -44,7 +44,7 @@ module _ (c : tie.After-ratio-at Inv-loop μ-loop) where
   abbrev slots : Bool → ℕ
   slots side = cond side (second .before .child-at .result) (second .child-at2 .result)
 
-  seen : let a = start .args in (s : Swept (jointsOf (a .joins .now) (a .firsts .now) (a .seconds .now) (a .ratios .now)) (a .n))
+  seen : let a = start .args in (s : Swept (a .inward) (jointsOf (a .joins .now) (a .firsts .now) (a .seconds .now) (a .ratios .now)) (a .n))
       → Turn (s .circuit) (suc floor + at-loop .loop .k) (c .before .join-at .result) slots (toZ w64 (ofZ w64 (c .ratio-at .result)))
   seen s =
       turn s (in-turn .loop-test .taken) refl (c .before .join-at .ensures) (second .before .child-at .ensures) (second .child-at2 .ensures)
