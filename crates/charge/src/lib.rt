@@ -1,4 +1,4 @@
-// A circuit with the waves that it starts from: rules 4 to 12, which every call that plays samples tries first, the ports that it plays with,
+// A circuit with the waves that it starts from: rules 3 to 12, which every call that plays samples tries first, the ports that it plays with,
 // and what it hands back where it is turned away.
 use circuit::Answer;
 use circuit::COLUMNS;

@@ -84,7 +84,7 @@ stray = record { state = record { waves = set freshWaves 30 (pos 1) }; left = 8 
 
 numbers : List Line
 numbers =
-    -- 4 to 11, then the rows of 12, then what is carried beside the waves
+    -- 3 to 11, then the rows of 12, then what is carried beside the waves
     gives (feeds (curved (case1 .kind) []) stray 3 0) (report 4 0)
     ∷ gives (feeds case1 stray 3 0) (report 12 30)
     ∷ gives (feeds case1 (carrying 3 0 15) 3 0) (report 12 255)

@@ -53,7 +53,7 @@ module _ {r : Record} {ratios : List ℕ} {ws : List ℤ} (h : Playable r ratios
       ran-raw-worked k (ap (λ n. n .number) (pass-done chargedRules (rawCharged k) passes)) in
       record { number = rw e (w .number); samples = rw e (w .samples); waves = rw e waves; room = rw (e, ← length-outputBytes) (w .written) }
 
--- 4 to 12, as they are tried on lists
+-- 3 to 12, as they are tried on lists
 module _ {k : Charged} {p : Ports} (h : Charges k p) {n : ℕ} (number : n ≡ handed (p .answer) .number) where
   pub refusing : (n ≡ 0 → ⊥) → 0 < judge chargedRules k .number
   refusing some = rw (← h .number) (omega arith)

@@ -41,7 +41,7 @@ kept-rows : (r : Record) → setUpReport r ≡ done → setUpRows r ≡ prepared
 unfolding setUpRows
 kept-rows r e = rw e
 
--- a circuit with its waves that 4 to 12 do not refuse
+-- a circuit with its waves that 3 to 12 do not refuse
 pub playable : (k : Charged) (ratios : List ℕ) → Sized (k .circuit) → ratios ≡ ratiosOf (setUpRows (k .circuit)) → judge chargedRules k .number ≡ 0
     → Playable (k .circuit) ratios (k .waves)
 playable k ratios sized e z =

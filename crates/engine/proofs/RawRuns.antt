@@ -1,4 +1,4 @@
--- Laws of a raw run: it is turned away where one of 4 to 12 applies, and else its samples are played.
+-- Laws of a raw run: it is turned away where one of 3 to 12 applies, and else its samples are played.
 use Prim.Native.Nat.{_<_}
 use native.Mathlib.Omega.{arith}
 use mathlib.Core.Path.{_≡_}

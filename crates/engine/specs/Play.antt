@@ -27,7 +27,7 @@ module _ {A : Type 0} (shown : List ℤ → List A) where
   pub record Plays (p : Plan) (ups xs : List ℤ) (before : List A) (s : Stop) (after : List ℤ) (out : List A) : Type 0 where
     pub plays : (r : Record) (ws : List ℤ) → Fixed p r → Loaded r ws ups → Ends r (play r ws xs) before s after out
 
--- the rows' ratios after set-up and the stored waves, of a circuit that 4 to 12 do not refuse
+-- the rows' ratios after set-up and the stored waves, of a circuit that 3 to 12 do not refuse
 pub record Playable (r : Record) (ratios : List ℕ) (ws : List ℤ) : Type 0 where
   pub ready : Ready r ratios
   pub waves : storedWavesRule r ws ≡ passes

@@ -159,7 +159,7 @@ fn samples(
     }
 }
 
-// A call that 4 to 13 do not refuse; `prepared` are the rows' ratios after set-up.
+// A call that 3 to 13 do not refuse; `prepared` are the rows' ratios after set-up.
 pub(crate) fn play(
     h: Heading,
     cells: &Cells,

@@ -103,7 +103,7 @@ fn raw_samples(
     }
 }
 
-// A call that 4 to 12 do not refuse; `prepared` are the rows' ratios after set-up.
+// A call that 3 to 12 do not refuse; `prepared` are the rows' ratios after set-up.
 pub(crate) fn play_raw(
     h: Heading,
     cells: &Cells,

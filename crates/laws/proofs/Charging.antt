@@ -1,4 +1,4 @@
--- Laws of a circuit with its stored waves: which of 4 to 12 decides it, and what it is where none does.
+-- Laws of a circuit with its stored waves: which of 3 to 12 decides it, and what it is where none does.
 use Prim.Native.Nat.{_<_}
 use mathlib.Core.Path.{_≡_}
 use mathlib.Core.List.{List, [], _∷_}
@@ -21,7 +21,7 @@ pub charged-numbered : Numbered chargedRules
 unfolding chargedRules
 charged-numbered = both-numbered (of (λ k. k .circuit) setUpRules) wavesRules (of-numbered (λ (k : Charged). k .circuit) setUpRules set-up-numbered) (lit< tt, tt)
 
--- none of 4 to 12 applies
+-- none of 3 to 12 applies
 pub record Cleared (k : Charged) : Type 0 where
   pub setUp : setUpReport (k .circuit) ≡ done
   pub waves : storedWavesRule (k .circuit) (k .waves) ≡ passes

@@ -1,4 +1,4 @@
--- Laws of a call of a take and of its ending: which of 4 to 12, 15, 16 and 17 decides them, and what a call carries on. What a call hands
+-- Laws of a call of a take and of its ending: which of 3 to 12, 15, 16 and 17 decides them, and what a call carries on. What a call hands
 -- back, unless it is 16, is what the rules of a take then say of what it carried on.
 use Prim.Native.Nat.{ℕ, zero, suc, _+_, _*_, _<_, _≤_}
 use native.Mathlib.Omega.{arith}
@@ -24,7 +24,7 @@ use Rattle.laws.proofs.Charging.{wavesRules, charged-judged, charged-nu
 use Rattle.laws.proofs.Running.{waves-after}
 use Rattle.laws.proofs.Bytes.{length-leftOver, samples-number}
 
--- ---- 4 to 12 of a circuit and its waves
+-- ---- 3 to 12 of a circuit and its waves
 
 -- where they let the waves pass, they let those after samples pass
 charged-on : (r : Record) (ws xs : List ℤ) → judge chargedRules (record { circuit = r; waves = ws }) .number ≡ 0

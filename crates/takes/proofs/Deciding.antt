@@ -1,4 +1,4 @@
--- What decides a call and the ending of a take: 4 to 12 of the circuit first, then 12 and 15 of what is carried, then 16 or 17.
+-- What decides a call and the ending of a take: 3 to 12 of the circuit first, then 12 and 15 of what is carried, then 16 or 17.
 use Prim.Native.Nat.{ℕ, suc, _+_, _*_, _/_, _<_, _≤_}
 use native.Mathlib.Omega.{arith}
 use borrow.Author.Tests.{leb-true, eqb-true}

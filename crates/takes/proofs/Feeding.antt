@@ -88,7 +88,7 @@ module _ {r : Record} {c : Carried} {s o : List ℕ} {p : Progress} {after : Lis
   abbrev here : Played
   here = play r (c .state .waves) (samplesOf (available call))
 
-  -- 4 to 12
+  -- 3 to 12
   abbrev first : Report
   first = judge chargedRules (stored (underWay call))
 

@@ -219,7 +219,7 @@ module _ (r : Record) (c : Carried) (bytes room : List ℕ) (output : List ℤ)
 
 -- ---- the theorem
 
--- from a state that 4 to 12 let pass and in which no refusal is held, and for any output of the run
+-- from a state that 3 to 12 let pass and in which no refusal is held, and for any output of the run
 pub cut-anywhere : (r : Record) (c : Carried) (p : TakePiece) (ps : List TakePiece) (output : List ℤ)
     → judge takeRules (takeOf r c) .number ≡ 0
     → Roomy r c (p ∷ ps)

@@ -1,4 +1,4 @@
--- `run` meets its contract: what was laid out is the record, a call of it that 4 to 13 refuse is turned away, and any other is played.
+-- `run` meets its contract: what was laid out is the record, a call of it that 3 to 13 refuse is turned away, and any other is played.
 use Prim.Native.Nat.{_<_}
 use mathlib.Core.Path.{_≡_, refl, sym, ap, _∙_}
 use mathlib.Core.List.{[]}
@@ -45,7 +45,7 @@ called c =
     let g = start (laying (laid (judging c))) .args in
     call (g .r) (g .state .waves) (g .input .now) (g .output .now)
 
--- ---- 4 to 13
+-- ---- 3 to 13
 
 -- the rules are tried on the lists, and these stand for the record
 judged : (c : tie.After-check) → Charges (charged (called c)) (c .check .result)

@@ -1,4 +1,4 @@
--- `run_raw` meets its contract: what was laid out is the record, a call of it that 4 to 12 refuse is turned away, and any other is played.
+-- `run_raw` meets its contract: what was laid out is the record, a call of it that 3 to 12 refuse is turned away, and any other is played.
 use mathlib.Core.Path.{_≡_, refl}
 use mathlib.Core.List.{_++_}
 use borrow.Author.Needs.{needs}

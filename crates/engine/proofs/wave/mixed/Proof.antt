@@ -5,6 +5,9 @@ use Rattle.engine.proofs.Range.{mixed-fits}
 use Rattle.engine.proofs.wave.mixed.Statement.{statement}
 use Rattle.engine.proofs.wave.mixed.Tie as tie
 
+returns : tie.Need-returns
+returns c = let m = mixed-fits (c .pre .0) (c .pre .1) (c .pre .2) in search (needs, signed)
+
 pub mixed-spec : {M : Type 1} → statement M
 mixed-spec =
     tie.close
@@ -15,4 +18,4 @@ mixed-spec =
     (λ c. let m = mixed-fits (c .pre .0) (c .pre .1) (c .pre .2) in search (needs, signed))
     (λ c. search needs)
     (λ c. let m = mixed-fits (c .pre .0) (c .pre .1) (c .pre .2) in search (needs, signed))
-    (λ c. let m = mixed-fits (c .pre .0) (c .pre .1) (c .pre .2) in search (needs, signed)))
+    returns)
