@@ -1,9 +1,9 @@
 #!/usr/bin/env python3
 # The circuits and the take that speed is measured on. As a program it writes one circuit file and after it the take, as `take` reads them:
 #
-#     python3 speed/cases.py chain 31 62 pair 1200 | ./run take > outputs
+#     python3 speed/cases.py chain 31 62 pair 1200 2 | ./run take > outputs
 #
-# A chain joins one leaf after another to what is there; a tree joins two by two, then those two by two. The leaves are a capacitor, a
+# The last word is the version, 1 where there is none. A chain joins one leaf after another to what is there; a tree joins two by two, then those two by two. The leaves are a capacitor, a
 # resistor, an inductor and a steady source in turn, and the last is the input; adaptors are parallel and series in turn, by their height.
 # Each run writes the same bytes.
 import math
@@ -94,16 +94,16 @@ def row_bytes(kind, a, b):
     return struct.pack("<BBBx12x", kind, a, b) if kind >= SERIES else struct.pack("<B3xid", kind, a, b)
 
 
-def file_of(rows, width, kind):
+def file_of(rows, width, kind, version=1):
     """The bytes of a circuit file. The tap is row 0."""
-    heading = struct.pack("<HBBBBxxIxxxxd", 1, len(rows), 0, 1 + (kind == "pair"), width, RATE, ports(rows)[-1])
+    heading = struct.pack("<HBBBBxxIxxxxd", version, len(rows), 0, 1 + (kind == "pair"), width, RATE, ports(rows)[-1])
     points = b"".join(struct.pack("<ii", *c) for c in columns(width, kind))
     return block(0, heading) + block(1, b"".join(row_bytes(*r) for r in rows)) + block(2, points)
 
 
-def circuit(shape, count, width, kind):
+def circuit(shape, count, width, kind, version=1):
     """A chain or a tree; row 0 is a capacitor."""
-    return file_of((chain if shape == "chain" else tree)(count), width, kind)
+    return file_of((chain if shape == "chain" else tree)(count), width, kind, version)
 
 
 def lone(width):
@@ -126,5 +126,5 @@ def take(samples):
 
 
 if __name__ == "__main__":
-    shape, count, width, kind, samples = sys.argv[1:]
-    sys.stdout.buffer.write(circuit(shape, int(count), int(width), kind) + take(int(samples)))
+    shape, count, width, kind, samples, *version = sys.argv[1:]
+    sys.stdout.buffer.write(circuit(shape, int(count), int(width), kind, *map(int, version)) + take(int(samples)))

@@ -3,7 +3,7 @@
  *     plain [SAMPLES] < INPUT > OUTPUT
  *
  * INPUT, OUTPUT and SAMPLES are those of the program `take`. The exit status is the number of the refusal, 0 where there is none; its
- * place is not told. The take is worked in calls of SAMPLES samples, 10,000 where none is given, and every call looks at rules 4 to 12 and
+ * place is not told. The take is worked in calls of SAMPLES samples, 10,000 where none is given, and every call looks at rules 3 to 12 and
  * lays the circuit out anew, as `feed` does.
  *
  * For little-endian machines and compilers like GCC and clang, with -ffp-contract=off where a processor can multiply and add in one step.
@@ -23,6 +23,8 @@ extern void *memcpy(void *, const void *, unsigned long);
 enum {
     ROWS = 31,
     COLUMNS = 62,
+    ROUNDED_DOWN = 1,           /* the version that rounds down; a later one rounds toward zero */
+    LAST_VERSION = 2,
     SHIFT = 24,
     PARTS = 1 << SHIFT,         /* a ratio counts parts of this many */
     SOURCE_LIMIT = 1 << 24,     /* microvolts of a steady source */
@@ -61,6 +63,8 @@ static union {
     };
 } file;
 
+static int bad_version(void) { return file.version < 1 || file.version > LAST_VERSION; }
+
 static int any(const void *from, unsigned long n)
 {
     const u8 *byte = from;
@@ -95,11 +99,11 @@ static int read_file(long length)
         for (int i = 0; i < 127; i++) sum += file.words[block][i];
         if (sum != file.words[block][127]) return 2;
     }
-    if (file.version != 1) return 3;
+    if (bad_version()) return 3;
     return file_unused() ? 4 : 0;
 }
 
-/* ---- set-up: rules 4 to 12 */
+/* ---- set-up: rules 3 to 12 */
 
 static double resistance[ROWS];
 static i32 ratio[ROWS];
@@ -213,6 +217,7 @@ static int bad_waves(void)
 
 static int set_up(void)
 {
+    if (bad_version()) return 3;
     if (bad_form()) return 4;
     if (file.rate < 8000 || file.rate > 768000) return 5;
     if (bad_tree()) return 6;
@@ -347,8 +352,11 @@ static int leaf_over(void)
     return 0;
 }
 
+/* a + g * t / PARTS as one fraction, rounded toward zero. */
+INLINE i64 mixed(i64 g, i64 a, i64 t) { return (PARTS * a + g * t) / PARTS; }
+
 /* Works n samples, and hands back how many were done before one was refused. The byte before the first sample is read too. */
-INLINE long work(const u8 *in, i32 *out, long n, int pair)
+INLINE long work(const u8 *in, i32 *out, long n, int pair, int inward)
 {
     const i32 *const start = out;
     const unsigned long width = file.width;
@@ -362,7 +370,7 @@ INLINE long work(const u8 *in, i32 *out, long n, int pair)
         for (long k = 0; k < joints; k++) {
             const struct adaptor *a = &adaptor[k];
             i64 a1 = up[a->first], a2 = up[a->second];
-            sent[k] = a->series ? -(a1 + a2) : a2 + ((a->ratio * (a1 - a2)) >> SHIFT);
+            sent[k] = a->series ? -(a1 + a2) : inward ? mixed(a->ratio, a2, a1 - a2) : a2 + ((a->ratio * (a1 - a2)) >> SHIFT);
         }
 
         i64 risen = up[top];
@@ -373,7 +381,7 @@ INLINE long work(const u8 *in, i32 *out, long n, int pair)
             const struct adaptor *a = &adaptor[k];
             i64 a1 = up[a->first], a3 = arriving[k];
             if (a->series) {                    /* a1 + a2 is minus what was sent */
-                i64 b1 = a1 - ((a->ratio * (a3 - sent[k])) >> SHIFT);
+                i64 b1 = inward ? mixed(a->ratio, a1, sent[k] - a3) : a1 - ((a->ratio * (a3 - sent[k])) >> SHIFT);
                 down[a->first] = b1;
                 down[a->second] = -(a3 + b1);
             } else {
@@ -396,6 +404,12 @@ INLINE long work(const u8 *in, i32 *out, long n, int pair)
     return n;
 }
 
+/* The kind of curve and the rounding are chosen once for a call. */
+INLINE long work_by(const u8 *in, i32 *out, long n, int pair)
+{
+    return file.version == ROUNDED_DOWN ? work(in, out, n, pair, 0) : work(in, out, n, pair, 1);
+}
+
 /* A call: the refusal's number, and how many samples are done. Within `main` it would be left too few registers. */
 static __attribute__((noinline)) int feed(const u8 *in, i32 *out, long n, long *done)
 {
@@ -403,7 +417,7 @@ static __attribute__((noinline)) int feed(const u8 *in, i32 *out, long n, long *
     *done = 0;
     if (number) return number;
     lay_out();
-    *done = file.curve == PAIR ? work(in, out, n, 1) : work(in, out, n, 0);
+    *done = file.curve == PAIR ? work_by(in, out, n, 1) : work_by(in, out, n, 0);
     store_waves();
     return *done < n ? 15 : 0;
 }

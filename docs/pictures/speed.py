@@ -21,9 +21,10 @@ def figures(name, words):
 COUNTS, TIMES = figures("take.count", 4), figures("take.time", 5)
 HALVING, WALK = figures("halving.segments", 2), figures("walk.segments", 2)
 
-# Where the costs stand in a line of counts: that of plain C, after it that of `take`, and the ratio. In a line of segments C and `take` stand
+# Where the costs stand in a line of counts, of a sample in version 1 and in version 2 and of a call: that of plain C, after it that of `take`, and
+# the ratio. In a line of segments C and `take` stand
 # twice, first in instructions and then in nanoseconds.
-SAMPLE, CALL = 0, 3
+SAMPLE, LATER, CALL = 0, 3, 6
 
 
 # ---- tables
@@ -42,8 +43,9 @@ def costs(case, place, shown):
 
 
 def count_table():
-    rows = ([*case, *costs(case, SAMPLE, "{:.0f}"), *costs(case, CALL, "{:,.0f}")] for case in COUNTS)
-    return table(["shape", "rows", "columns", "curve", "sample: C", "take", "take / C", "call: C", "take", "take / C"], rows)
+    rows = ([*case, *costs(case, SAMPLE, "{:.0f}"), *costs(case, LATER, "{:.0f}"), *costs(case, CALL, "{:,.0f}")] for case in COUNTS)
+    beside = ["take", "take / C"]
+    return table(["shape", "rows", "columns", "curve", "sample: C", *beside, "version 2: C", *beside, "call: C", *beside], rows)
 
 
 def time_table():
@@ -70,6 +72,7 @@ def growth_table():
     return table(
         ["instructions of", "C", "take"], [
             growth("a sample, for each adaptor, that is two rows", SAMPLE, small, tall, 14),
+            growth("the same in version 2", LATER, small, tall, 14),
             growth("a call, for each row", CALL, small, tall, 28),
             growth("a call, for each column", CALL, tall, wide, 60),
         ])
