@@ -88,7 +88,7 @@ fn wrong_check(s: &[u8]) -> Answer
     Answer::Done
 }
 
-// Numbers 1 to 4, as far as the bytes say them.
+// Numbers 1 to 4, as far as the bytes say them. An accepted file needs the last two tests both, and their answers stand in the order of the numbers.
 pub(crate) fn judged(s: &[u8]) -> Answer
     ensures { λ a. ⌜ handed a ≡ judge fileRules (now (s .entry)) ⌝ }
 {

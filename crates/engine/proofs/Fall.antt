@@ -118,7 +118,8 @@ module _ {inward : Bool} {js : Joints} {n : ℕ} (s : Swept inward js n) where
         sent-range : (side : Bool) → Abs (falls r w row joint (storedAt ds own) side) (downLimit (suc (topSlot r - own)))
         sent-range side =
             subst
-            (λ ρ. Abs (sendsTo ρ side (joint .join) (ratioAt r row) (rises r w (joint .first)) (rises r w (joint .second)) (storedAt ds own)) (downLimit (suc (topSlot r - own))))
+            (λ ρ. Abs (sendsTo ρ side (joint .join) (ratioAt r row) (rises r w (joint .first)) (rises r w (joint .second)) (storedAt ds own))
+            (downLimit (suc (topSlot r - own))))
             (sym rounds)
             (abs-as (down-range inward (ratioAt r row) (accepted .ratio row) (rises-range s t _) (rises-range s t _) own-range side (joint .join)) refl
             (omega (arith, both-few s t)))

@@ -30,4 +30,5 @@ module _ (g : ℕ) (a1 a2 : ℤ) where
   b1-to-zero a3 =
       let G = var 0 in let K = var 1 in let A1 = var 2 in let A2 = var 3 in let A3 = var 4 in
       ap (λ z. quotZ z (pos parts))
-      (ring (pos g ∷ pos parts ∷ a1 ∷ a2 ∷ a3 ∷ []) (A1 ⊗ K ⊕ by1 (⊖ (G ⊗ (by1 (by1 A1 ⊕ by1 A2) ⊕ by1 A3)))) (K ⊗ A1 ⊕ G ⊗ ⊖ (A1 ⊕ A2 ⊕ A3)) refl)
+      (ring (pos g ∷ pos parts ∷ a1 ∷ a2 ∷ a3 ∷ []) (A1 ⊗ K ⊕ by1 (⊖ (G ⊗ (by1 (by1 A1 ⊕ by1 A2) ⊕ by1 A3))))
+      (K ⊗ A1 ⊕ G ⊗ ⊖ (A1 ⊕ A2 ⊕ A3)) refl)

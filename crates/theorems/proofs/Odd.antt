@@ -1,7 +1,6 @@
 -- Where the rounding turns over with its waves, so does everything between the leaves: opposite waves from the leaves make opposite waves at
 -- every adaptor, going up and coming down. Rounding toward zero is such, and so is the answer of a pair.
 use Prim.Native.Nat.{ℕ, zero, suc}
-use native.Mathlib.Omega.{arith}
 use mathlib.Core.Path.{_≡_, refl, sym, ap, ap₂, _∙_}
 use mathlib.Core.Bool.{Bool, true, false, cond}
 use mathlib.Core.List.{[], _∷_}

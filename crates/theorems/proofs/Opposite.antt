@@ -1,6 +1,6 @@
 -- THE NULL TEST. Version 2 with a pair and no steady source but at 0: opposite samples from opposite waves put out and store the opposite, and
 -- are refused alike. So a take and its inverse, added up, are silence.
-use Prim.Native.Nat.{ℕ, zero, suc, _<_}
+use Prim.Native.Nat.{ℕ, zero, suc}
 use native.Mathlib.Omega.{arith}
 use mathlib.Core.Path.{_≡_, refl, sym, ap, ap₂, _∙_}
 use mathlib.Core.Bool.{Bool, true, false, not, _&&_, _||_, cond}
@@ -17,7 +17,7 @@ use Rattle.circuit.specs.Record.{rowLimit, sourceLimit, top, partAt, isLeaf, tr
 use Rattle.circuit.specs.SetUp.{ratioAt, setUpReport}
 use Rattle.circuit.specs.Curve.{waveLimit, reflected}
 use Rattle.circuit.specs.Sample.{Arithmetic, Rounding, wholeWaves, roundingOf, rounded, sends, stores, partSends, partStores, sent, risen, arriving, kept, output, Sampled, refused, finished, storedAt, inLimit, sampled}
-use Rattle.circuit.specs.Run.{Played, play, _before_, soundWave, storedWavesRule, chargedRules, lengthsRule, Call, call, charged, runRules, ran}
+use Rattle.circuit.specs.Run.{Played, play, _before_, soundWave, storedWavesRule, lengthsRule, Call, call, charged, runRules, ran}
 use Rattle.circuit.specs.Promises.{Runs}
 use Rattle.circuit.specs.declared.Element.the-variants.{Resistor, Capacitor, Inductor, Input, Steady}
 use Rattle.circuit.specs.declared.Part.{Part}
@@ -155,8 +155,9 @@ module _ {r : Record} (even : Balanced r) where
     sample-opposite : sampled r (opposite ws) (negℤ x) ≡ opposed (sampled r ws x)
     unfolding sampled
     sample-opposite =
-        outcome-opposed (output 𝓐 (reflected r) r stored x) (table (kept 𝓐 (reflected r) r stored x) rowLimit) (within-opposite sourceLimit x) limit-opposite output-opposite
-        (table-same _ (λ j. negℤ (kept 𝓐 (reflected r) r stored x j)) rowLimit (λ j l. kept-opposite j) ∙ table-opposite (kept 𝓐 (reflected r) r stored x) rowLimit)
+        let keeps = kept 𝓐 (reflected r) r stored x in
+        outcome-opposed (output 𝓐 (reflected r) r stored x) (table keeps rowLimit) (within-opposite sourceLimit x) limit-opposite output-opposite
+        (table-same _ (λ j. negℤ (keeps j)) rowLimit (λ j l. kept-opposite j) ∙ table-opposite keeps rowLimit)
 
   -- ---- samples in order
 
@@ -234,6 +235,7 @@ module _ {r : Record} (sized : Sized r) (even : Balanced r) (ws xs os os′ : Li
         silence = λ i l.
             let a = getD out i (pos 0) in
             let b : getD inverse i (pos 0) ≡ negℤ a =
-            sym (getD-take (p .done) inverse i (pos 0) l) ∙ ap (λ s. getD s i (pos 0)) outputs ∙ at-opposite (take (p .done) out) i ∙ ap negℤ (getD-take (p .done) out i (pos 0) l) in
+            sym (getD-take (p .done) inverse i (pos 0) l) ∙ ap (λ s. getD s i (pos 0)) outputs
+            ∙ at-opposite (take (p .done) out) i ∙ ap negℤ (getD-take (p .done) out i (pos 0) l) in
             rw b (ring (a ∷ []) (var 0 ⊕ ⊖ (var 0)) (con (pos 0)) refl);
       }
