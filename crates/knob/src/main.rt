@@ -6,8 +6,8 @@ use circuit::FILE_LENGTH;
 use libc::STDERR_FILENO;
 use libc::STDIN_FILENO;
 use libc::STDOUT_FILENO;
-use listing::ROOM;
 use numeral::Numeral;
+use words::ROOM;
 
 // The program's own name, the knee and the thermal voltage.
 const ARGUMENTS: usize = 3;
@@ -37,9 +37,9 @@ fn say_refusal(a: Answer) {
     say(b" at ");
     io::print_decimal(STDERR_FILENO, a.place());
     say(b": ");
-    let mut words = [0u8; ROOM];
-    let length = listing::explain(a, &mut words);
-    say(&words[..length]);
+    let mut line = [0u8; ROOM];
+    let length = words::explain(a, &mut line);
+    say(&line[..length]);
 }
 
 // An argument that is longer than the buffer counts as empty.

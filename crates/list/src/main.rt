@@ -4,7 +4,6 @@ use circuit::FILE_LENGTH;
 use libc::STDERR_FILENO;
 use libc::STDIN_FILENO;
 use libc::STDOUT_FILENO;
-use listing::ROOM;
 
 fn say(words: &[u8]) {
     io::write_all(STDERR_FILENO, words);
@@ -13,9 +12,9 @@ fn say(words: &[u8]) {
 fn say_refusal(a: Answer) {
     if a.number() != 0 {
         say(b"list: ");
-        let mut words = [0u8; ROOM];
-        let length = listing::explain(a, &mut words);
-        say(&words[..length]);
+        let mut line = [0u8; words::ROOM];
+        let length = words::explain(a, &mut line);
+        say(&line[..length]);
     }
 }
 
@@ -23,7 +22,7 @@ fn say_refusal(a: Answer) {
 fn main() {
     let mut bytes = [0u8; FILE_LENGTH + 1];
     let count = io::read_full(STDIN_FILENO, &mut bytes);
-    let mut text = [0u8; ROOM];
+    let mut text = [0u8; listing::ROOM];
     let listed = listing::list(&bytes[..count], &mut text);
     let length = listed.length;
     io::write_all(STDOUT_FILENO, &text[..length]);

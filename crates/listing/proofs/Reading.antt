@@ -1,6 +1,7 @@
 -- Which lines a file's listing has, by the number that reading hands back; and where they stand after `list`.
 use Prim.Native.Nat.{ℕ, _≤_}
-use lib.ListN.{length}
+use native.Mathlib.Omega.{arith}
+use lib.ListN.{length, length-append}
 use borrow.Author.Tests.{ne-eqb, eq-eqb}
 use mathlib.Core.Path.{_≡_, sym, ap, _∙_}
 use mathlib.Core.List.{List}
@@ -12,7 +13,7 @@ use Rattle.circuit.specs.Promises.{Lists}
 use Rattle.circuit.specs.declared.Listed.{Listed}
 use Rattle.file.proofs.Reported.{read-judged, read-on}
 use Rattle.listing.specs.Writing.{Puts}
-use Rattle.listing.proofs.Texts.{puts-as, starts, starts-bytes, ends-within}
+use Rattle.listing.proofs.Texts.{puts-as, starts, starts-bytes}
 
 module _ (s : List ℕ) where
   -- a file that reading accepts holds a record that set-up accepts
@@ -34,4 +35,4 @@ module _ (s : List ℕ) where
 
 -- so it ends within the buffer
 pub listed-inside : {bytes before after : List ℕ} {l : Listed} → Lists bytes before l after → l .length ≤ length after
-listed-inside {bytes} {before} h = ends-within (listing bytes) before (h .size) (h .text)
+listed-inside h = omega (arith, h .size, simp length-append at (ap length (h .text)))

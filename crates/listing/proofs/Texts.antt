@@ -80,9 +80,6 @@ module _ {most n : ℕ} {t out after : List ℕ} (p : Puts most t 0 out n after)
   pub starts-bytes : after ≡ t ++ drop (length t) out
   starts-bytes = rw zero-add at (p .bytes)
 
-pub ends-within : {n : ℕ} (t before : List ℕ) {after : List ℕ} → n ≡ length t → after ≡ t ++ drop (length t) before → n ≤ length after
-ends-within t before size bytes = omega (arith, simp length-append at (ap length bytes))
-
 -- ---- the digits of a number
 
 module _ (n : ℕ) where

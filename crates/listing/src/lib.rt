@@ -1,9 +1,7 @@
 // The listing of a circuit file, as text: a line for the count and the tap, then a line for each row; or one line for a refusal.
 mod row;
 mod text;
-mod words;
 
-pub use words::explain;
 ghost use Prim.Native.Nat.{_≤_};
 ghost use mathlib.Core.Path.{_≡_};
 ghost use lib.ListN.{length};

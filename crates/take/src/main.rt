@@ -16,7 +16,7 @@ use circuit::TAKE_LIMIT;
 use libc::STDERR_FILENO;
 use libc::STDIN_FILENO;
 use libc::STDOUT_FILENO;
-use listing::ROOM;
+use words::ROOM;
 
 // The largest piece of a take, in samples, and the usual one: so many that setting the circuit up, which is done for every piece, is a small
 // part of the work.
@@ -38,9 +38,9 @@ fn say_refusal(a: Answer) {
         say(b" at ");
         io::print_decimal(STDERR_FILENO, a.place());
         say(b": ");
-        let mut words = [0u8; ROOM];
-        let length = listing::explain(a, &mut words);
-        say(&words[..length]);
+        let mut line = [0u8; ROOM];
+        let length = words::explain(a, &mut line);
+        say(&line[..length]);
     }
 }
 

@@ -10,7 +10,7 @@ use mathlib.Core.List.{List, [], _∷_}
 use lib.Dec.{eqb}
 use lib.ListN.{length, drop, getD, length-drop}
 use lib.Seq.{drop-cons, drop-length}
-use Rattle.listing.specs.Numbered.{lineLength, lineEnd}
+use Rattle.words.specs.Numbered.{lineLength, lineEnd}
 
 stop-short : {n m : ℕ} (stops : Bool) → n ≤ m → suc (cond stops 0 n) ≤ suc m
 stop-short true h = omega arith

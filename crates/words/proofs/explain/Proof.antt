@@ -6,18 +6,17 @@ use lib.ListN.{length}
 use Rattle.circuit.specs.Text.{text}
 use Rattle.circuit.specs.Words.{meaning}
 use Rattle.circuit.specs.File.{concat}
-use Rattle.listing.specs.Numbered.{line}
-use Rattle.listing.proofs.Texts.{puts-as}
-use Rattle.listing.proofs.Explaining.{allWords, numbered, explains}
-use Rattle.listing.proofs.words.explain.Statement.{statement}
-use Rattle.listing.proofs.words.explain.Tie as tie
+use Rattle.words.specs.Numbered.{line}
+use Rattle.words.proofs.Explaining.{allWords, numbered, explains}
+use Rattle.words.proofs.explain.Statement.{statement}
+use Rattle.words.proofs.explain.Tie as tie
 
 words : (c : tie.After-number) → line allWords (c .number .result) ≡ meaning (c .before .args .a)
 words c = ap (line allWords) (c .number .ensures) ∙ numbered (c .before .args .a) .0
 
 returns : tie.Need-returns
 unfolding allWords meaning text concat
-returns c = explains (puts-as (c .put-line .ensures) (words (c .before .before .before)))
+returns c = explains (c .put-line .ensures) (words (c .before .before .before))
 
 put-line-requires : tie.Need-put-line-requires
 unfolding allWords meaning text concat

@@ -1,20 +1,18 @@
 -- The words of an answer: which line of the words of all answers they are, and where they stand after `explain`.
 use Prim.Native.Nat.{ℕ, _≤_}
-use mathlib.Core.Path.{_≡_, refl}
+use native.Mathlib.Omega.{arith}
+use mathlib.Core.Path.{_≡_, refl, ap, _∙_}
 use mathlib.Core.List.{List, [], _∷_, map}
 use lib.Dec.{lit≤}
-use lib.ListN.{length}
+use lib.ListN.{length, length-append}
 use Rattle.circuit.specs.Numbers.{handed}
 use Rattle.circuit.specs.Text.{text}
 use Rattle.circuit.specs.Words.{meaning}
 use Rattle.circuit.specs.File.{concat}
-use Rattle.circuit.specs.Listing.{listingRoom}
 use Rattle.circuit.specs.Promises.{Explains}
 use Rattle.circuit.specs.declared.Answer.{Answer}
 use Rattle.circuit.specs.declared.Answer.the-variants.{Done, Length, Check, Version, Form, Rate, Tree, Value, Resistance, Ratio, Curve, Fit, Waves, Lengths, Sample, Overload, Room, LeftOver, Voltage}
-use Rattle.listing.specs.Writing.{Puts}
-use Rattle.listing.specs.Numbered.{lineLength, lineStart, line}
-use Rattle.listing.proofs.Texts.{starts, starts-bytes, ends-within}
+use Rattle.words.specs.Numbered.{lineLength, lineStart, line, Begins, wordsRoom}
 
 -- the words of all answers, in the order of their numbers
 unfoldable pub allWords : List ℕ
@@ -24,7 +22,7 @@ allWords =
     ))
 
 -- an answer's words are the line with its number, and there is room for them
-pub numbered : (a : Answer) → (line allWords (handed a .number) ≡ meaning a) × (length (meaning a) ≤ listingRoom)
+pub numbered : (a : Answer) → (line allWords (handed a .number) ≡ meaning a) × (length (meaning a) ≤ wordsRoom)
 unfolding allWords meaning text concat handed lineLength lineStart
 numbered Done = (refl, lit≤ tt)
 numbered Length = (refl, lit≤ tt)
@@ -46,8 +44,8 @@ numbered Room = (refl, lit≤ tt)
 numbered (LeftOver samples) = (refl, lit≤ tt)
 numbered Voltage = (refl, lit≤ tt)
 
-pub explains : {a : Answer} {most n : ℕ} {out after : List ℕ} → Puts most (meaning a) 0 out n after → Explains a out n after
-explains p = record { size = starts p; text = starts-bytes p }
+pub explains : {a : Answer} {n : ℕ} {t out after : List ℕ} → Begins t out n after → t ≡ meaning a → Explains a out n after
+explains p e = record { size = p .size ∙ ap length e; text = rw e at (p .text) }
 
 pub explained-inside : {a : Answer} {before after : List ℕ} {n : ℕ} → Explains a before n after → n ≤ length after
-explained-inside {a} {before} h = ends-within (meaning a) before (h .size) (h .text)
+explained-inside h = omega (arith, h .size, simp length-append at (ap length (h .text)))

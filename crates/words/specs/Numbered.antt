@@ -1,9 +1,10 @@
--- The lines of a text, by number from 0. Each ends in a newline, which is 10.
+-- The lines of a text, by number from 0, each ending in a newline, which is 10; and a text at the start of a buffer, with room for any words.
 use Prim.Native.Nat.{ℕ, zero, suc, _+_, _-_}
 use mathlib.Core.Bool.{cond}
-use mathlib.Core.List.{List, [], _∷_}
+use mathlib.Core.Path.{_≡_}
+use mathlib.Core.List.{List, [], _∷_, _++_}
 use lib.Dec.{eqb}
-use lib.ListN.{take, drop}
+use lib.ListN.{length, take, drop}
 
 -- how many bytes the first line has, with its newline
 unfoldable pub lineLength : List ℕ → ℕ
@@ -20,3 +21,12 @@ lineStart s (suc k) = lineEnd s (lineStart s k)
 
 abbrev pub line : List ℕ → ℕ → List ℕ
 line s k = take (lineEnd s (lineStart s k) - lineStart s k) (drop (lineStart s k) s)
+
+-- the text t, of n bytes, stands at the start of a buffer, and the bytes after it are those of `out`
+pub record Begins (t out : List ℕ) (n : ℕ) (after : List ℕ) : Type 0 where
+  pub size : n ≡ length t
+  pub text : after ≡ t ++ drop (length t) out
+
+-- room for any answer's words
+abbrev pub wordsRoom : ℕ
+wordsRoom = 129

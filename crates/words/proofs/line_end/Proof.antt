@@ -3,10 +3,10 @@ use Prim.Native.Nat.{_-_, _≤_}
 use native.Mathlib.Omega.{arith}
 use mathlib.Core.Path.{_≡_, refl, sym, _∙_}
 use lib.ListN.{length}
-use Rattle.listing.specs.Numbered.{lineEnd}
-use Rattle.listing.proofs.Numbered.{line-stops, line-goes-on, line-none}
-use Rattle.listing.proofs.words.line_end.Statement.{statement}
-use Rattle.listing.proofs.words.line_end.Tie as tie
+use Rattle.words.specs.Numbered.{lineEnd}
+use Rattle.words.proofs.Numbered.{line-stops, line-goes-on, line-none}
+use Rattle.words.proofs.line_end.Statement.{statement}
+use Rattle.words.proofs.line_end.Tie as tie
 
 abbrev Inv-loop : tie.InvT-loop
 Inv-loop lines from i₀ i = (i ≤ length lines) × (lineEnd lines i ≡ lineEnd lines from)

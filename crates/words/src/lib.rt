@@ -3,11 +3,13 @@ ghost use Prim.Native.Nat.{_≤_};
 ghost use mathlib.Core.Path.{_≡_};
 ghost use lib.ListN.{length};
 ghost use Rattle.circuit.specs.Promises.{Explains};
-ghost use Rattle.listing.specs.Writing.{Puts};
-ghost use Rattle.listing.specs.Numbered.{lineEnd, line};
-use crate::Page;
-use crate::text::put_text;
+ghost use Rattle.words.specs.Numbered.{lineEnd, line, Begins};
 use circuit::Answer;
+
+// Room for any answer's words. The longest are those of number 18.
+pub const ROOM: usize = 129;
+
+pub type Line = [u8; ROOM];
 
 // Where the line ends that begins at a place: after its newline.
 fn line_end(lines: &[u8], from: usize) -> usize
@@ -27,21 +29,21 @@ fn line_end(lines: &[u8], from: usize) -> usize
 // The line that has k lines before it, at the start of the buffer.
 fn put_line(out: &mut [u8], lines: &[u8], k: u64) -> usize
     requires { ⌜ length (line (now lines) k) ≤ length (now out) ⌝ }
-    ensures { λ next. ⌜ Puts (length (line (now (lines .entry)) k)) (line (now (lines .entry)) k) 0 (now (out .entry)) next (now (out .exit)) ⌝ }
+    ensures { λ n. ⌜ Begins (line (now (lines .entry)) k) (now (out .entry)) n (now (out .exit)) ⌝ }
 {
     let mut from = 0;
     for _ in 0..k {
         from = line_end(lines, from);
     }
     let to = line_end(lines, from);
-    put_text(out, 0, &lines[from..to])
+    bytes::copy(&lines[from..to], out)
 }
 
 // The words at the start of `out`, and their length. The bytes after them stay as they were.
 //
 // The text has a line for each number, from 0. Every text of a function stands in each step of its proof, so a match with a text to an arm
 // would take several times as long to check.
-pub fn explain(a: Answer, out: &mut Page) -> usize
+pub fn explain(a: Answer, out: &mut Line) -> usize
     ensures { λ n. ⌜ Explains a (now (out .entry)) n (now (out .exit)) ⌝ }
 {
     let number = a.number();
