@@ -42,7 +42,7 @@ static int is_adaptor(u8 kind) { return kind >= SERIES; }
 
 /* ---- the circuit file, which is the record as it stands */
 
-struct row { u8 kind, first, second, zero; i32 microvolts; double value; };
+struct row { u8 kind, first, second, mark; i32 microvolts; double value; };
 struct column { i32 x, y; };
 
 static union {
@@ -79,7 +79,7 @@ static int row_unused(const struct row *r)
     const u8 *bytes = (const u8 *)r;
     if (r->kind == BLANK) return any(bytes + 1, 15);
     if (is_adaptor(r->kind)) return any(bytes + 3, 13);
-    return any(bytes + 1, r->kind == STEADY ? 3 : 7);
+    return any(bytes + 1, 2) || r->mark > 1 || (r->kind != STEADY && r->microvolts);
 }
 
 static int file_unused(void)
@@ -115,7 +115,8 @@ static int bad_form(void)
     if (file.count < 1 || file.count > ROWS || file.width < 2 || file.width > COLUMNS
         || (file.curve != SINGLE && file.curve != PAIR))
         return 1;
-    for (int i = 0; i < ROWS; i++) bad |= (file.row[i].kind == BLANK) != (i >= file.count);
+    for (int i = 0; i < ROWS; i++)
+        bad |= ((file.row[i].kind == BLANK) != (i >= file.count)) | (file.row[i].mark && !is_leaf(file.row[i].kind));
     for (int j = file.width; j < COLUMNS; j++) bad |= file.column[j].x | file.column[j].y;
     return bad;
 }
@@ -233,7 +234,7 @@ static int set_up(void)
  *
  * Rows get slots: first the reactive leaves, then the other leaves, then the adaptors in their order. The reactive leaves, and all leaves,
  * are made an even number by a slot that stays 0. `up` has what each slot sends, and between samples what it sends next; `down` has what
- * arrives.
+ * arrives. Between a reversed leaf and its slot a wave changes sign.
  */
 
 enum { SLOTS = ROWS + 3 };
@@ -246,6 +247,7 @@ struct line { i64 edge, rise, base, run; };
 static int slot[ROWS];
 static int leaves, reactive, adaptors;
 static int input, tap, top;             /* slots */
+static i64 sample_turn, meter;          /* -1 where the input, and where the tap's leaf, is reversed, and else 0 */
 static struct adaptor adaptor[ROWS / 2];
 static struct line line[COLUMNS + 2];
 static _Alignas(16) i64 up[SLOTS], down[SLOTS];
@@ -270,21 +272,24 @@ static void lay_curve(void)
 
 static int even(int n) { return n + n % 2; }
 
+static i64 facing(const struct row *r) { return -(i64)r->mark; }
+static inline i64 turned(i64 t, i64 a) { return (a ^ t) - t; }
+
 static void lay_out(void)
 {
     int next = 0;
     for (int i = 0; i < SLOTS; i++) up[i] = turn[i] = 0;
     for (int i = 0; i < file.count; i++)
         if (is_reactive(file.row[i].kind)) {
-            up[next] = wave[i];
+            up[next] = turned(facing(&file.row[i]), wave[i]);
             turn[next] = file.row[i].kind == INDUCTOR ? -1 : 0;
             slot[i] = next++;
         }
     reactive = next = even(next);
     for (int i = 0; i < file.count; i++)
         if (is_leaf(file.row[i].kind) && !is_reactive(file.row[i].kind)) {
-            up[next] = file.row[i].microvolts;
-            if (file.row[i].kind == INPUT) input = next;
+            up[next] = turned(facing(&file.row[i]), file.row[i].microvolts);
+            if (file.row[i].kind == INPUT) input = next, sample_turn = facing(&file.row[i]);
             slot[i] = next++;
         }
     leaves = next = even(next);
@@ -297,13 +302,14 @@ static void lay_out(void)
     adaptors = next - leaves;
     top = slot[file.count - 1];
     tap = file.tap == TOP ? top : slot[file.tap];
+    meter = file.tap == TOP ? 0 : facing(&file.row[file.tap]);
     lay_curve();
 }
 
 static void store_waves(void)
 {
     for (int i = 0; i < file.count; i++)
-        if (is_reactive(file.row[i].kind)) wave[i] = up[slot[i]];
+        if (is_reactive(file.row[i].kind)) wave[i] = turned(facing(&file.row[i]), up[slot[i]]);
 }
 
 /* ---- samples */
@@ -361,11 +367,12 @@ INLINE long work(const u8 *in, i32 *out, long n, int pair, int inward)
     const i32 *const start = out;
     const unsigned long width = file.width;
     const long joints = adaptors, kept = reactive & ~1L, ends = leaves & ~1L;     /* even, for the compiler to see */
+    const i64 in_turn = sample_turn, out_turn = meter;
     i64 *const sent = &up[ends], *const arriving = &down[ends];
     for (const u8 *const end = in + 3 * n; in != end; in += 3) {
         i32 sample;
         memcpy(&sample, in - 1, 4);
-        up[input] = sample >> 8;                /* the byte before falls out */
+        up[input] = turned(in_turn, sample >> 8);       /* the byte before falls out */
 
         for (long k = 0; k < joints; k++) {
             const struct adaptor *a = &adaptor[k];
@@ -397,9 +404,9 @@ INLINE long work(const u8 *in, i32 *out, long n, int pair, int inward)
         for (long i = 0; i < ends; i++) past |= down[i] + WAVE_LIMIT;
         if (past & -(2LL * WAVE_LIMIT) && leaf_over()) return out - start;
 
-        *out++ = (i32)(up[tap] + down[tap]);
+        *out++ = (i32)turned(out_turn, up[tap] + down[tap]);
         TWO_AT_A_TIME
-        for (long i = 0; i < kept; i++) up[i] = (down[i] ^ turn[i]) - turn[i];
+        for (long i = 0; i < kept; i++) up[i] = turned(turn[i], down[i]);
     }
     return n;
 }

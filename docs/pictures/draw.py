@@ -1,9 +1,9 @@
 #!/usr/bin/env python3
-# Draws five pictures of this folder: tree.svg, curve.svg, ends.svg, flow.svg, bound.svg. From the repository's root:
+# Draws six pictures of this folder: tree.svg, curve.svg, ends.svg, flow.svg, bound.svg, reversed.svg. From the repository's root:
 #
 #     python3 docs/pictures/draw.py
 #
-# Each run writes the same bytes. Nothing but Python's standard library is needed. The waves in tree.svg and bound.svg and the lines in
+# Each run writes the same bytes. Nothing but Python's standard library is needed. The waves in tree.svg, bound.svg and reversed.svg and the lines in
 # curve.svg and ends.svg are worked out here, by the rules of one sample and of the curve.
 import math
 import os
@@ -467,9 +467,43 @@ def bound():
     p.save()
 
 
+# ---- reversed.svg: bench case 6 with a steady source for its resistor, as it was and with the source reversed
+
+def turned_round():
+    sample, own, ratio = 4000, 600, PARTS // 4
+    p = Picture(
+        "reversed.svg", 960, 470, "A source in series with the input, as it was and reversed",
+        [
+            "Twice the same tree: the diode at the top, the series adaptor below it, an input of 4000 microvolts and a steady source of 600.",
+            "On the right the source is reversed: between it and its row both waves change sign, and the tap reads its own two.",
+        ])
+    for left, turn, title in ((0, 1, "as it was"), (480, -1, "the source reversed")):
+        up = turn * own
+        risen = -(sample + up)
+        answer = diode(CURVE_K, risen, True)
+        b1 = sample - math.floor(Fraction(ratio * (sample + up + answer), PARTS))
+        b2 = -(answer + b1)
+        x = left + 240
+        p.text(left + 28, 34, title, size=16, bold=True)
+        below = p.box(x, 52, 180, ["diode", "curve K"], "#fbe9d0")
+        p.waves((x, 162), (x, below), num(risen), num(answer))
+        below = p.box(x, 162, 180, ["series, row 2", "ratio 1/4"], REGION)
+        p.waves((left + 130, 300), (x - 46, below), num(sample), num(b1))
+        p.waves((left + 350, 300), (x + 46, below), num(up), num(b2))
+        p.box(left + 120, 300, 160, ["input, row 0", f"sample {sample}"])
+        p.box(left + 360, 300, 170, ["source, row 1", f"sends {num(own)}, gets {num(turn * b2)}"], PALE if turn > 0 else "#f3e3ea")
+        p.text(left + 445, 376, f"tap: {num(own)} + {num(turn * b2)} = {num(own + turn * b2)}".replace("+ \u2212", "\u2212 "), "end", bold=True)
+    p.text(28, 420, "waves in microvolts:", ink=GREY)
+    p.text(172, 420, "going up", ink=UP, bold=True)
+    p.text(246, 420, "coming down", ink=DOWN, bold=True)
+    p.text(28, 444, "Reversed, a leaf's two waves change sign between it and its row. The tap adds the leaf's own two, in half microvolts.", ink=GREY)
+    p.save()
+
+
 if __name__ == "__main__":
     tree()
     curve()
     ends()
     flow()
     bound()
+    turned_round()

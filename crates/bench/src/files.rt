@@ -35,6 +35,7 @@ pub fn cases(mut t: Tally) -> Tally {
     t = read(t, &file, 0, 0);
     t = written_again(t, &file);
     t = second_version(t);
+    t = reversed(t);
     refused_writes(unused(spoiled(checks(t, file), file), file))
 }
 
@@ -60,6 +61,15 @@ fn second_version(mut t: Tally) -> Tally {
     let answer = file::write(make::with_version(case_1(), 2), &mut file);
     t = answered(t, answer, 0, 0);
     written_again(t, &file)
+}
+
+// With a resistor reversed, and then with a mark of 2 there.
+fn reversed(mut t: Tally) -> Tally {
+    let mut file = [0u8; FILE_LENGTH];
+    let answer = file::write(make::reversed(case_1(), 1), &mut file);
+    t = answered(t, answer, 0, 0);
+    t = written_again(t, &file);
+    resealed(t, file, 1, ROW_1 + 3, 4)
 }
 
 // A block 2 of zeros, but for the lowest byte of its check.
@@ -130,7 +140,7 @@ fn resealed(t: Tally, file: File, block: usize, place: usize, number: u64) -> Ta
     read(t, &s, number, 0)
 }
 
-// The version, and bytes that should be as they are: in the heading and behind it, in the rows, and in the columns.
+// The version and a resistor's mark, and bytes that should be as they are: in the heading and behind it, in the rows, and in the columns.
 fn unused(mut t: Tally, file: File) -> Tally {
     t = resealed(t, file, 0, 0, 0);
     t = resealed(t, file, 0, 1, 3);
@@ -140,9 +150,11 @@ fn unused(mut t: Tally, file: File) -> Tally {
     t = resealed(t, file, 0, CHECK_PLACE - 1, 4);
     t = resealed(t, file, 1, 1, 4);
     t = resealed(t, file, 1, ROW_1 + 2, 4);
+    t = resealed(t, file, 1, ROW_1 + 3, 0);
     t = resealed(t, file, 1, ROW_1 + 4, 4);
     t = resealed(t, file, 1, ROW_2 + 3, 4);
     t = resealed(t, file, 1, ROW_2 + 15, 4);
+    t = resealed(t, file, 1, ROW_3 + 3, 4);
     t = resealed(t, file, 1, ROW_3 + 8, 4);
     t = resealed(t, file, 1, ROW_3, 4);
     t = resealed(t, file, 1, BLOCK_LENGTH - 16, 4);

@@ -12,6 +12,9 @@ version 2
 version 3
 version 65535
 version 3 and row count 32
+a resistor reversed
+an adaptor reversed
+a blank row reversed
 case 12, row count 32
 row count 31
 row count 1
@@ -89,6 +92,13 @@ version 1, b1 is 450 1/2, tapped at the first child
 version 1, b1 is 450 1/2, tapped at the second child
 version 2, b1 is 450 1/2, tapped at the first child
 version 2, b1 is 450 1/2, tapped at the second child
+case 6, its resistor reversed
+an input alone, tap 0
+an input alone and reversed, tap 0
+an input alone and reversed, tap 255
+a reversed source in series, tap 0
+a reversed source in series, tap 1
+a reversed source in series, tap 255
 case 12
 case 12
 past the lower limit
@@ -102,6 +112,9 @@ case 8, samples 4000 and 0 in one run
 a capacitor
 a capacitor
 a capacitor, samples 4000 and -4000 in one run
+case 8, its inductor reversed, samples 4000 and 0 in one run
+a reversed capacitor
+a reversed capacitor, samples 4000 and -4000 in one run
 case 8, samples 4000 and 16777217
 67108864 and then 67108865 microvolts at the diode
 67108864 microvolts at a leaf
@@ -120,6 +133,10 @@ file of case 1, written again: the same bytes
 file of case 1 in version 2, written
 file of case 1 in version 2, written again
 file of case 1 in version 2, written again: the same bytes
+file of case 1, its resistor reversed, written
+file of case 1, its resistor reversed, written again
+file of case 1, its resistor reversed, written again: the same bytes
+a mark of 2
 case 11, a block 2 of zeros with check 2
 case 11, a block 2 of zeros with check 3
 file of case 1, each 17th byte in turn one up: refused 2 at its block
@@ -131,9 +148,11 @@ a byte between rate and resistance
 a byte behind the heading
 a first child of an input
 a second child of a resistor
+the mark of a resistor
 microvolts of a resistor
-the zero of an adaptor's row
+the mark of an adaptor
 a value of an adaptor
+the mark of a blank row
 a value of a blank row
 a resistor past the row count, in a file
 a byte behind the rows

@@ -27,15 +27,25 @@ fn adaptor(join: Join, first: u8, second: u8) -> Row {
     };
     Row {
         part: Part::Adaptor(a),
+        reversed: false,
+    }
+}
+
+fn leaf(e: Element) -> Row {
+    Row {
+        part: Part::Leaf(e),
+        reversed: false,
     }
 }
 
 // An input of this many ohms in row 0.
 fn input(ohms: f64) -> Rows {
-    let mut rows = [Row { part: Part::Blank }; ROWS];
-    rows[0] = Row {
-        part: Part::Leaf(Element::Input(ohms)),
+    let blank = Row {
+        part: Part::Blank,
+        reversed: false,
     };
+    let mut rows = [blank; ROWS];
+    rows[0] = leaf(Element::Input(ohms));
     rows
 }
 
@@ -43,9 +53,7 @@ fn input(ohms: f64) -> Rows {
 fn joined(mut rows: Rows, j: usize, join: Join, e: Element) -> Rows
     requires { ⌜ (0 < j) × (j + 1 < rowLimit) ⌝ }
 {
-    rows[j] = Row {
-        part: Part::Leaf(e),
-    };
+    rows[j] = leaf(e);
     rows[j + 1] = adaptor(join, (j - 1) as u8, j as u8);
     rows
 }
@@ -212,12 +220,22 @@ pub fn with_children(mut r: Record, first: u8, second: u8) -> Record {
     r
 }
 
+// Row j the other way round.
+pub fn reversed(mut r: Record, j: usize) -> Record
+    requires { ⌜ j < rowLimit ⌝ }
+{
+    let mut rows = r.rows;
+    let mut row = rows[j];
+    row.reversed = true;
+    rows[j] = row;
+    r.rows = rows;
+    r
+}
+
 // A resistor in row 3.
 pub fn with_row_3(mut r: Record) -> Record {
     let mut rows = r.rows;
-    rows[3] = Row {
-        part: Part::Leaf(Element::Resistor(1000.0)),
-    };
+    rows[3] = leaf(Element::Resistor(1000.0));
     r.rows = rows;
     r
 }

@@ -1,4 +1,4 @@
-// Runs from stored waves: case 8, a capacitor, what a refusal leaves, and both sides of each limit of a run.
+// Runs from stored waves: case 8, a capacitor, both reversed, what a refusal leaves, and both sides of each limit of a run.
 ghost use Prim.Native.Nat.{_≤_};
 use crate::labels;
 use crate::make;
@@ -24,6 +24,11 @@ pub fn cases(mut t: Tally) -> Tally {
     t = sample(t, r, 0, 4000, 0, 0, 2000, 2000);
     t = sample(t, r, 2000, -4000, 0, 0, -2000, -4000);
     t = two_samples(t, r, 4000, -4000, 0, 0, 2, 2000, -2000, -4000);
+    let r = make::reversed(case_8(), 1);
+    t = two_samples(t, r, 4000, 0, 0, 0, 2, -2000, 1000, 1000);
+    let r = make::reversed(make::capacitor(), 1);
+    t = sample(t, r, -2000, -4000, 0, 0, 2000, 4000);
+    t = two_samples(t, r, 4000, -4000, 0, 0, 2, -2000, 2000, 4000);
     // Where a later sample is refused, the first one's output and wave stay, and the second output is as it was.
     t = two_samples(t, case_8(), 4000, 16777217, 14, 1, 1, 2000, BEFORE, -2000);
     let r = make::sources(-1);

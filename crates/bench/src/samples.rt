@@ -1,5 +1,5 @@
-// One sample from a fresh state: cases 2 to 7, 9 and 12, each tap, each piece of a curve, both versions, and both sides of each limit of a
-// sample.
+// One sample from a fresh state: cases 2 to 7, 9 and 12, each tap, each piece of a curve, both versions, reversed leaves, and both sides of each
+// limit of a sample.
 use crate::labels;
 use crate::make;
 use crate::make::case_1;
@@ -36,6 +36,7 @@ pub fn cases(mut t: Tally) -> Tally {
     t = left_of_first(t);
     t = longest(t);
     t = versions(t);
+    t = reversals(t);
     limits(t)
 }
 
@@ -113,6 +114,19 @@ fn versions(mut t: Tally) -> Tally {
     let r = make::with_version(r, 2);
     t = sample(t, make::with_tap(r, 0), 501, 0, 951);
     sample(t, r, 501, 0, 1049)
+}
+
+// Case 6 with the meter's sign; an input alone, where the leaf has 4000 and -2000 and the diode -4000 and 2000; and a steady source against the input.
+fn reversals(mut t: Tally) -> Tally {
+    t = tapped(t, make::reversed(case_6(), 1), 1, 4500);
+    let r = make::alone();
+    t = tapped(t, r, 0, 2000);
+    t = tapped(t, make::reversed(r, 0), 0, 2000);
+    t = tapped(t, make::reversed(r, 0), TOP, -2000);
+    let r = make::reversed(make::case_6_with(Element::Steady(3000.0, 600)), 1);
+    t = tapped(t, r, 0, 6800);
+    t = tapped(t, r, 1, 4800);
+    tapped(t, r, TOP, -2000)
 }
 
 // Of a sample, and of a wave at the diode.

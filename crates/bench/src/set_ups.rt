@@ -14,7 +14,7 @@ use circuit::Record;
 pub fn cases(mut t: Tally) -> Tally {
     t = prepared(t, case_1(), 12582912, 750.0);
     t = prepared(t, case_6(), 4194304, 4000.0);
-    curves(leaves(counts(versions(t))))
+    curves(leaves(counts(marks(versions(t)))))
 }
 
 // The ratio and the port resistance that row 2 is prepared with.
@@ -45,6 +45,14 @@ fn versions(mut t: Tally) -> Tally {
     t = judged(t, make::with_version(r, 3), 3, 0);
     t = judged(t, make::with_version(r, 65535), 3, 0);
     judged(t, make::with_version(make::with_count(r, 32), 3), 3, 0)
+}
+
+// On a leaf, an adaptor and a blank row.
+fn marks(mut t: Tally) -> Tally {
+    let r = case_1();
+    t = judged(t, make::reversed(r, 1), 0, 0);
+    t = judged(t, make::reversed(r, 2), 4, 0);
+    judged(t, make::reversed(r, 3), 4, 0)
 }
 
 // Row counts, column counts, what lies past them, and rates.

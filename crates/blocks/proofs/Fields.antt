@@ -23,18 +23,19 @@ module _ (d : List ℕ) (at : ℕ) (h : at ≤ length d) where
   next-field : {j : ℕ} {m fields : List ℕ} (p k n : ℕ) (next : List ℕ) → p ≡ at + j → next ≡ placed m p (bytes k n) → Entered d at j m fields → Entered d at (j + k) next (fields ++ bytes k n)
   next-field p k n next e q g = entered-more g h (bytes k n) next p k e (length-bytes k n) q
 
-  pub row-placed : (kind first second value p : ℕ) (v : ℤ) → p ≡ ofZ w32 v → (m₁ m₂ m₃ m₄ m₅ m₆ : List ℕ)
+  pub row-placed : (kind first second mark value p : ℕ) (v : ℤ) → p ≡ ofZ w32 v → (m₁ m₂ m₃ m₄ m₅ m₆ : List ℕ)
       → m₁ ≡ placed d at (bytes 1 kind)
       → m₂ ≡ placed m₁ (at + 1) (bytes 1 first)
       → m₃ ≡ placed m₂ (at + 2) (bytes 1 second)
-      → m₄ ≡ placed m₃ (at + 3) (bytes 1 0)
+      → m₄ ≡ placed m₃ (at + 3) (bytes 1 mark)
       → m₅ ≡ placed m₄ (at + 4) (bytes 4 p)
       → m₆ ≡ placed m₅ (at + 8) (bytes 8 value)
-      → m₆ ≡ placed d at (rowFields kind first second v (bytes 8 value))
-  unfolding bytes
-  row-placed kind first second value p v e m₁ m₂ m₃ m₄ m₅ m₆ e₁ e₂ e₃ e₄ e₅ e₆ =
+      → m₆ ≡ placed d at (rowFields kind first second mark v (bytes 8 value))
+  row-placed kind first second mark value p v e m₁ m₂ m₃ m₄ m₅ m₆ e₁ e₂ e₃ e₄ e₅ e₆ =
       next-field (at + 8) 8 value m₆ refl e₆
-      (next-field (at + 4) 4 (ofZ w32 v) m₅ refl (e₅ ∙ ap (λ (q : ℕ). placed m₄ (at + 4) (bytes 4 q)) e) (next-field (at + 3) 1 0 m₄ refl e₄ (next-field (at + 2) 1 second m₃ refl e₃ (next-field (at + 1) 1 first m₂ refl e₂ (first-field 1 kind m₁ e₁))))) .bytes
+      (next-field (at + 4) 4 (ofZ w32 v) m₅ refl (e₅ ∙ ap (λ (q : ℕ). placed m₄ (at + 4) (bytes 4 q)) e)
+      (next-field (at + 3) 1 mark m₄ refl e₄
+      (next-field (at + 2) 1 second m₃ refl e₃ (next-field (at + 1) 1 first m₂ refl e₂ (first-field 1 kind m₁ e₁))))) .bytes
 
   pub column-placed : (c : Column) (x y : ℕ) (m n : List ℕ) → x ≡ ofZ w32 (c .x) → y ≡ ofZ w32 (c .y)
       → m ≡ placed d at (bytes 4 x) → n ≡ placed m (at + 4) (bytes 4 y) → n ≡ placed d at (columnFields c)

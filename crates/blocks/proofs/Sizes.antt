@@ -4,6 +4,7 @@ use Prim.Native.Nat.{ℕ, _*_}
 use native.Mathlib.Omega.{arith}
 use mathlib.Core.List.{map}
 use lib.ListN.{length, getD}
+use Rattle.circuit.specs.Counting.{one}
 use Rattle.circuit.specs.Record.{rowLimit, columnLimit, blankRow, rowAt, columnAt}
 use Rattle.circuit.specs.File.{rowLength, columnLength, bytes, heading, partFields, rowBytes, columnFields, concat, blocksOf}
 use Rattle.circuit.specs.declared.Element.the-variants.{Resistor, Capacitor, Inductor, Input, Steady}
@@ -25,19 +26,19 @@ pub column-size : (c : Column) → length (columnFields c) ≡ columnLength
 unfolding bytes
 column-size c = refl
 
-part-size : (p : Part) → length (partFields p) ≡ rowLength
+part-size : (p : Part) (mark : ℕ) → length (partFields p mark) ≡ rowLength
 unfolding partFields bytes
-part-size Blank = refl
-part-size (Leaf (Resistor r)) = refl
-part-size (Leaf (Capacitor c)) = refl
-part-size (Leaf (Inductor l)) = refl
-part-size (Leaf (Input r)) = refl
-part-size (Leaf (Steady r v)) = refl
-part-size (Adaptor a) = refl
+part-size Blank mark = refl
+part-size (Leaf (Resistor r)) mark = refl
+part-size (Leaf (Capacitor c)) mark = refl
+part-size (Leaf (Inductor l)) mark = refl
+part-size (Leaf (Input r)) mark = refl
+part-size (Leaf (Steady r v)) mark = refl
+part-size (Adaptor a) mark = refl
 
 pub row-size : (w : Row) → length (rowBytes w) ≡ rowLength
 unfolding rowBytes
-row-size w = part-size (w .part)
+row-size w = part-size (w .part) (one (w .reversed))
 
 module _ (r : Record) (sized : Sized r) where
   pub rows-size : length (concat (map rowBytes (r .rows))) ≡ rowLength * rowLimit

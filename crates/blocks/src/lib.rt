@@ -41,7 +41,10 @@ pub fn read(s: &[u8]) -> Reading
 pub fn no_record() -> Record
     ensures { λ r. ⌜ r ≡ noRecord ⌝ }
 {
-    let rows = [Row { part: Part::Blank }; ROWS];
+    let rows = [Row {
+        part: Part::Blank,
+        reversed: false,
+    }; ROWS];
     let kind = CurveKind::Unset;
     let columns = [Column { x: 0, y: 0 }; COLUMNS];
     Record {

@@ -31,17 +31,17 @@ fn is_clear(s: &[u8], at: usize, n: usize) -> bool
     clear
 }
 
-// Whether a row's kind is in the list, and what the kind does not use is zero.
+// Whether a row's kind is in the list, its mark is 0 or 1, and what the kind does not use is zero.
 fn is_clear_row(s: &[u8], at: usize) -> bool
     requires { ⌜ at + rowLength ≤ length (now s) ⌝ }
     ensures { λ r. ⌜ r ≡ clearRow (numberAt 1 at (now (s .entry))) at (now (s .entry)) ⌝ }
 {
     let kind = field::byte(s, at);
     let children = ((6 <= kind) & (kind <= 7)) | is_clear(s, at + 1, 2);
-    let gap = is_clear(s, at + 3, 1);
+    let mark = field::byte(s, at + 3) <= 1;
     let microvolts = (kind == 5) | is_clear(s, at + 4, 4);
     let value = ((1 <= kind) & (kind <= 5)) | is_clear(s, at + 8, 8);
-    (kind <= 7) & children & gap & microvolts & value
+    (kind <= 7) & children & mark & microvolts & value
 }
 
 fn are_clear_rows(s: &[u8]) -> bool

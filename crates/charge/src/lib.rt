@@ -91,7 +91,7 @@ pub fn check(
 pub fn answer(r: Record, state: State) -> Answer
     ensures { λ a. ⌜ handed a ≡ judge chargedRules (record { circuit = r; waves = state .waves }) ⌝ }
 {
-    let mut cells = [[0; 3]; ROWS];
+    let mut cells = [[0; 4]; ROWS];
     let mut microvolts = [0; ROWS];
     let mut values = [0.0; ROWS];
     let mut xs = [0; COLUMNS];

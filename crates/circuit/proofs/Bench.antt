@@ -21,7 +21,7 @@ use Rattle.circuit.specs.declared.Join.the-variants.{Series, Parallel}
 use Rattle.circuit.specs.declared.CurveKind.the-variants.{Single, Pair}
 use Rattle.circuit.specs.declared.Record.{Record}
 use Rattle.circuit.proofs.Working.{working}
-use Rattle.circuit.proofs.Circuits.{minus, ohms, column, case1, case6, case8, capacitive, curved, sourced, versioned, fresh}
+use Rattle.circuit.proofs.Circuits.{minus, ohms, column, alone, case1, case6, case8, capacitive, curved, sourced, versioned, reversing, fresh}
 
 -- what a case finds: the top's ratio and port resistance; a run's report, how many samples it has done, its outputs in half microvolts and
 -- what row 1 stores; the diode's answers; whether something is so; a report; a check
@@ -140,6 +140,30 @@ versions =
 versions-told : map (λ (l : Line). l .found) versions ≡ map (λ (l : Line). l .paper) versions
 unfolding working versions version played plainly fresh
 versions-told = ap₂ _∷_ refl refl
+
+-- ---- request 6: reversed leaves, each beside the same leaf as it was
+
+reversals : List Line
+reversals =
+    -- case 6 with the meter's sign
+    case 6 (played (fresh (reversing 1 (case6 1)) (pos 4000 ∷ []))) (plainly (pos 4500 ∷ []) (pos 0))
+    -- an input alone: the leaf has 4000 and −2000, the diode −4000 and 2000
+    ∷ case 0 (played (fresh (alone 0) (pos 4000 ∷ []))) (plainly (pos 2000 ∷ []) (pos 0))
+    ∷ case 0 (played (fresh (reversing 0 (alone 0)) (pos 4000 ∷ []))) (plainly (pos 2000 ∷ []) (pos 0))
+    ∷ case 0 (played (fresh (alone 255) (pos 4000 ∷ []))) (plainly (pos 2000 ∷ []) (pos 0))
+    ∷ case 0 (played (fresh (reversing 0 (alone 255)) (pos 4000 ∷ []))) (plainly (minus 2000 ∷ []) (pos 0))
+    -- a capacitor stores −86, then −84, and an inductor 2000, then 1000
+    ∷ case 0 (played (fresh (reversing 1 capacitive) (pos 4000 ∷ pos 0 ∷ []))) (plainly (minus 86 ∷ minus 170 ∷ []) (minus 84))
+    ∷ case 8 (played (fresh (reversing 1 case8) (pos 4000 ∷ pos 0 ∷ []))) (plainly (minus 2000 ∷ pos 1000 ∷ []) (pos 1000))
+    -- a steady source works against the input
+    ∷ case 0 (played (fresh (reversing 1 (sourced Series 0 (ohms 4000))) (pos 4000 ∷ []))) (plainly (pos 6800 ∷ []) (pos 0))
+    ∷ case 0 (played (fresh (reversing 1 (sourced Series 1 (ohms 4000))) (pos 4000 ∷ []))) (plainly (pos 4800 ∷ []) (pos 0))
+    ∷ case 0 (played (fresh (reversing 1 (sourced Series 255 (ohms 4000))) (pos 4000 ∷ []))) (plainly (minus 2000 ∷ []) (pos 0))
+    ∷ []
+
+reversals-told : map (λ (l : Line). l .found) reversals ≡ map (λ (l : Line). l .paper) reversals
+unfolding working reversals played plainly fresh
+reversals-told = ap₂ _∷_ refl refl
 
 -- ---- operands: a sample with a wave from each child, tapped at either and at the top; a capacitor's sign; the last word of a check
 

@@ -1,11 +1,11 @@
 -- The bench's circuits, as records. Rows are numbered in the order named, and the first named is the first child.
 use Prim.Native.Nat.{ℕ, _-_}
-use mathlib.Core.Bool.{false}
+use mathlib.Core.Bool.{true, false}
 use mathlib.Core.List.{List, [], _∷_, _++_}
-use lib.ListN.{length, replicate}
+use lib.ListN.{length, set, replicate}
 use lib.IntN.{ℤ, pos, negsuc, negℤ}
 use lib.Ieee.{Float, fin, binary64, ofInt}
-use Rattle.circuit.specs.Record.{rowLimit, columnLimit, blankRow}
+use Rattle.circuit.specs.Record.{rowLimit, columnLimit, blankRow, partAt}
 use Rattle.circuit.specs.Run.{Call, Ran, call, freshWaves, ran}
 use Rattle.circuit.specs.declared.Element.the-variants.{Resistor, Capacitor, Inductor, Input, Steady}
 use Rattle.circuit.specs.declared.Join.{Join}
@@ -51,7 +51,7 @@ column x y = record { x = x; y = y }
 
 abbrev rowsOf : List Part → List Row
 rowsOf [] = []
-rowsOf (p ∷ ps) = record { part = p } ∷ rowsOf ps
+rowsOf (p ∷ ps) = record { part = p; reversed = false } ∷ rowsOf ps
 
 -- of version 1
 abbrev pub circuit : List Part → ℕ → CurveKind → List Column → Float → Record
@@ -67,24 +67,35 @@ circuit ps tap kind cs q = record {
   resistance = q;
 }
 
--- a record in another version
-abbrev pub versioned : ℕ → Record → Record
-versioned version r = record {
+-- a record in another version and with other rows
+abbrev remade : ℕ → List Row → Record → Record
+remade version rows r = record {
   version = version;
   rate = r .rate;
   count = r .count;
   tap = r .tap;
-  rows = r .rows;
+  rows = rows;
   kind = r .kind;
   width = r .width;
   columns = r .columns;
   resistance = r .resistance;
 }
 
+abbrev pub versioned : ℕ → Record → Record
+versioned version r = remade version (r .rows) r
+
+-- with row j reversed
+abbrev pub reversing : ℕ → Record → Record
+reversing j r = remade (r .version) (set (r .rows) j (record { part = partAt r j; reversed = true })) r
+
 -- ---- the bench's curve and circuits
 
 abbrev pub curveK : List Column
 curveK = column (pos 0) (pos 0) ∷ column (pos 1000) (pos 1000) ∷ column (pos 2000) (pos 0) ∷ []
+
+-- input 1000 Ω alone
+abbrev pub alone : ℕ → Record
+alone tap = circuit (input (ohms 1000) ∷ []) tap Pair curveK (ohms 1000)
 
 -- input 1000 Ω and resistor 3000 Ω, joined
 abbrev pub divider : Join → ℕ → Float → Record

@@ -20,7 +20,7 @@ use Rattle.circuit.specs.declared.Column.{Column}
 use Rattle.circuit.specs.declared.CurveKind.the-variants.{Unset, Single, Pair}
 use Rattle.circuit.specs.declared.Record.{Record}
 use Rattle.circuit.proofs.Working.{working}
-use Rattle.circuit.proofs.Circuits.{minus, ohms, input, resistor, inductor, steady, joins, column, circuit, versioned, curveK, case1, case8, curved, calling, fresh}
+use Rattle.circuit.proofs.Circuits.{minus, ohms, input, resistor, inductor, steady, joins, column, circuit, versioned, reversing, curveK, case1, case8, curved, calling, fresh}
 
 -- ---- changed records
 
@@ -99,14 +99,14 @@ spoiled-refused = refl
 row : ℕ → List ℕ → Bool
 row kind others = clearRow kind 0 (kind ∷ others)
 
--- each kind with the bytes that it uses, and then with one more: a resistor's first child, an input's fourth byte, a capacitor's microvolts, a
--- steady source's second child, an adaptor's microvolts, and −0.0 for an adaptor's value
+-- each kind with the bytes that it uses, the first of them reversed, and then with one more: a resistor's first child, an input's mark of 2, a
+-- capacitor's microvolts, a steady source's second child, an adaptor's microvolts, and −0.0 for an adaptor's value
 rows-spoiled :
-    row 1 (0 ∷ 0 ∷ 0 ∷ 0 ∷ 0 ∷ 0 ∷ 0 ∷ 1 ∷ 1 ∷ 1 ∷ 1 ∷ 1 ∷ 1 ∷ 1 ∷ 1 ∷ [])
+    row 1 (0 ∷ 0 ∷ 1 ∷ 0 ∷ 0 ∷ 0 ∷ 0 ∷ 1 ∷ 1 ∷ 1 ∷ 1 ∷ 1 ∷ 1 ∷ 1 ∷ 1 ∷ [])
     ∷ row 5 (0 ∷ 0 ∷ 0 ∷ 1 ∷ 1 ∷ 1 ∷ 1 ∷ 1 ∷ 1 ∷ 1 ∷ 1 ∷ 1 ∷ 1 ∷ 1 ∷ 1 ∷ [])
     ∷ row 7 (1 ∷ 1 ∷ 0 ∷ 0 ∷ 0 ∷ 0 ∷ 0 ∷ 0 ∷ 0 ∷ 0 ∷ 0 ∷ 0 ∷ 0 ∷ 0 ∷ 0 ∷ [])
     ∷ row 1 (1 ∷ 0 ∷ 0 ∷ 0 ∷ 0 ∷ 0 ∷ 0 ∷ 1 ∷ 1 ∷ 1 ∷ 1 ∷ 1 ∷ 1 ∷ 1 ∷ 1 ∷ [])
-    ∷ row 4 (0 ∷ 0 ∷ 1 ∷ 0 ∷ 0 ∷ 0 ∷ 0 ∷ 1 ∷ 1 ∷ 1 ∷ 1 ∷ 1 ∷ 1 ∷ 1 ∷ 1 ∷ [])
+    ∷ row 4 (0 ∷ 0 ∷ 2 ∷ 0 ∷ 0 ∷ 0 ∷ 0 ∷ 1 ∷ 1 ∷ 1 ∷ 1 ∷ 1 ∷ 1 ∷ 1 ∷ 1 ∷ [])
     ∷ row 2 (0 ∷ 0 ∷ 0 ∷ 1 ∷ 0 ∷ 0 ∷ 0 ∷ 1 ∷ 1 ∷ 1 ∷ 1 ∷ 1 ∷ 1 ∷ 1 ∷ 1 ∷ [])
     ∷ row 5 (0 ∷ 1 ∷ 0 ∷ 1 ∷ 1 ∷ 1 ∷ 1 ∷ 1 ∷ 1 ∷ 1 ∷ 1 ∷ 1 ∷ 1 ∷ 1 ∷ 1 ∷ [])
     ∷ row 6 (1 ∷ 1 ∷ 0 ∷ 0 ∷ 0 ∷ 0 ∷ 1 ∷ 0 ∷ 0 ∷ 0 ∷ 0 ∷ 0 ∷ 0 ∷ 0 ∷ 0 ∷ [])
@@ -135,6 +135,10 @@ records =
     ∷ gives (setUpReport (case1With 48000 3 63 [])) (report 4 0)
     -- a column past the count that is not (0, 0)
     ∷ gives (setUpReport (case1With 48000 3 3 (column (pos 0) (pos 1) ∷ []))) (report 4 0)
+    -- request 6: a mark on a leaf, on an adaptor and on a blank row
+    ∷ gives (setUpReport (reversing 1 case1)) done
+    ∷ gives (setUpReport (reversing 2 case1)) (report 4 0)
+    ∷ gives (setUpReport (reversing 3 case1)) (report 4 0)
     ∷ gives (setUpReport (atRate 7999)) (report 5 0)
     ∷ gives (setUpReport (atRate 8000)) done
     ∷ gives (setUpReport (atRate 768000)) done

@@ -143,6 +143,8 @@ impl Part {
 
 pub struct Row {
     pub part: Part,
+    // a leaf the other way round: its waves change sign between it and the tree
+    pub reversed: bool,
 }
 
 // A point of the diode's curve, in microvolts: the wave that reaches the diode, and the wave that it sends back.

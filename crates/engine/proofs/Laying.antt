@@ -30,6 +30,10 @@ tap-inside r acc = ⊎-elim
     rw (ne-eqb (r .tap) top (λ e. omega (arith, acc .short))) l)
     (acc .tapped)
 
+-- and has room, where it is not the top
+pub tap-low : {r : Record} → Accepted r → (r .tap ≡ top → ⊥) → r .tap < rowLimit
+tap-low {r} acc other = let inside = rw (ne-eqb (r .tap) top other) at (tap-inside r acc) in omega (arith, acc .short)
+
 -- a circuit by its own rows
 pub seat : {r : Record} {prepared slots : List ℕ} {count : ℕ} → count ≡ r .count → Layable r prepared slots → Seated (r .rows) count slots r
 seat many h = record { prepared = _; all = refl; many = sym many; layable = h }

@@ -1,5 +1,6 @@
 pub mod Calling
 pub mod Entering
+pub mod Facing
 pub mod Fall
 pub mod Fill
 pub mod Finishing

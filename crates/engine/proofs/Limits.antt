@@ -5,7 +5,7 @@ use mathlib.Core.Path.{_≡_, ap₂, _∙_}
 use mathlib.Core.Bool.{true}
 use borrow.Author.Tests.{leb-true, le-leb}
 use lib.IntN.{ℤ, pos, natAbs, negℤ, _+ℤ_, _-ℤ_, +ℤ-idl}
-use mir.Syntax.{w32, w64}
+use mir.Syntax.{w64}
 use mir.Val.{SFits, toZ, ofZ}
 use mir.Facts.{toZ-ofZ}
 use Rattle.whole.specs.Integers.{at, _⊞_, _⊟_}
@@ -44,9 +44,8 @@ module _ {x y : ℤ} (h : Abs x waveLimit) (k : Abs y waveLimit) where
   pub difference-range : Abs (x -ℤ y) (2 * waveLimit)
   difference-range = omega (zarith, at x ⊟ at y)
 
-  -- a sum of two fits 32 bits
-  pub sum-short : SFits w32 (x +ℤ y)
-  sum-short = omega (zfits, at x ⊞ at y)
+  pub sum-range : Abs (x +ℤ y) (2 * waveLimit)
+  sum-range = omega (zarith, at x ⊞ at y)
 
   pub sum-fits : SFits w64 (toZ w64 (ofZ w64 x) +ℤ toZ w64 (ofZ w64 y))
   sum-fits = rw (limit-reads h, limit-reads k) (omega (zfits, at x ⊞ at y))

@@ -5,8 +5,7 @@ use borrow.Author.Count.{below-none}
 use mathlib.Core.Path.{_≡_, sym, ap, _∙_, subst}
 use mathlib.Core.List.{List}
 use lib.ListN.{length, getD, set, length-set}
-use Rattle.circuit.specs.Record.{rowLimit, rowIn, partAt}
-use Rattle.circuit.specs.declared.Part.{Part}
+use Rattle.circuit.specs.Record.{rowLimit, rowIn, rowAt}
 use Rattle.circuit.specs.declared.Row.{Row}
 use Rattle.circuit.specs.declared.Record.{Record}
 use Rattle.engine.specs.Plan.{slotOf, Layable}
@@ -51,8 +50,8 @@ module _ {A : Type 0} {d : A} {slots : List ℕ} {f : ℕ → A} {l : List A} wh
   }
 
 -- what every circuit with these rows and slots then has
-pub placed-all : {A : Type 0} {d : A} {slots : List ℕ} {rows : List Row} {count : ℕ} {l : List A} (f : ℕ → Part → A)
-    → Placed d slots (λ j. f j (rowIn rows j .part)) count l → (r : Record) (prepared : List ℕ) → r .rows ≡ rows → r .count ≡ count
-    → Layable r prepared slots → (j : ℕ) → j < count → getD l (slotOf r j) d ≡ f j (partAt r j)
+pub placed-all : {A : Type 0} {d : A} {slots : List ℕ} {rows : List Row} {count : ℕ} {l : List A} (f : ℕ → Row → A)
+    → Placed d slots (λ j. f j (rowIn rows j)) count l → (r : Record) (prepared : List ℕ) → r .rows ≡ rows → r .count ≡ count
+    → Layable r prepared slots → (j : ℕ) → j < count → getD l (slotOf r j) d ≡ f j (rowAt r j)
 placed-all {d = d} {l = l} f p r prepared e n h j m =
-    ap (λ s. getD l s d) (sym (h .slot j (omega arith))) ∙ p .at j m ∙ ap (λ (rows : List Row). f j (rowIn rows j .part)) (sym e)
+    ap (λ s. getD l s d) (sym (h .slot j (omega arith))) ∙ p .at j m ∙ ap (λ (rows : List Row). f j (rowIn rows j)) (sym e)

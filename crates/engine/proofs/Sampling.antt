@@ -3,7 +3,7 @@
 use Prim.Native.Nat.{ℕ, suc, _+_, _-_, _<_, _≤_}
 use native.Mathlib.Decide.{decLt}
 use native.Mathlib.Omega.{arith}
-use mathlib.Core.Path.{_≡_, refl, sym, ap, _∙_}
+use mathlib.Core.Path.{_≡_, refl, sym, ap, _∙_, subst}
 use mathlib.Core.Bool.{true, false, cond, true≢false, and-eq-true-iff}
 use mathlib.Core.Logic.{_⊎_, inl, inr}
 use mathlib.Core.List.{List}
@@ -14,10 +14,10 @@ use lib.Ieee.Bits.{is-true}
 use lib.Ieee.Positive.{positive}
 use Rattle.whole.specs.Order.{zarith, Abs, abs-as}
 use Rattle.circuit.specs.Counting.{within}
-use Rattle.circuit.specs.Record.{partAt, isBlank, isLeaf, isInput, soundPart, sourceLimit, treeOf, lastRow}
+use Rattle.circuit.specs.Record.{partAt, reversedAt, isBlank, isLeaf, isInput, soundPart, sourceLimit, treeOf, lastRow}
 use Rattle.circuit.specs.SetUp.{ratioAt}
 use Rattle.circuit.specs.Curve.{waveLimit, reflected}
-use Rattle.circuit.specs.Sample.{Rounding, wholeWaves, roundingOf, rounded, sends, partSends, sent, risen, reach, arriving, inLimit, sampled, refused, storedAt}
+use Rattle.circuit.specs.Sample.{Rounding, wholeWaves, roundingOf, rounded, sends, partSends, turned, sent, raised, risen, reach, reached, inLimit, sampled, refused, storedAt}
 use Rattle.circuit.specs.Run.{soundWave}
 use Rattle.circuit.specs.declared.Element.{Element}
 use Rattle.circuit.specs.declared.Element.the-variants.{Resistor, Capacitor, Inductor, Input, Steady}
@@ -29,7 +29,8 @@ use Rattle.laws.proofs.Trees as Trees
 use Rattle.parts.specs.Parts.{roleOf}
 use Rattle.engine.specs.Plan.{floor, slotOf, topSlot, Plan}
 use Rattle.engine.specs.Sweep.{rises, Risen, Swept, Climbs, Modest, Drops, Reached}
-use Rattle.engine.specs.Sample.{Fixed, Loaded, LaidOut}
+use Rattle.engine.specs.Sample.{Turn, turnedBy, Fixed, Loaded, LaidOut}
+use Rattle.engine.proofs.Facing.{part-turn, turned-range, input-turned}
 use Rattle.engine.proofs.Limits.{within-abs}
 use Rattle.engine.proofs.Turn.{adaptor-slot}
 use Rattle.engine.proofs.Fall.{modest-set}
@@ -91,6 +92,12 @@ module _ {p : Plan} {r : Record} (fixed : Fixed p r) where
       let low = slot-low k in
       (fixed .slotted .row s, t .0, low-leaf (fixed .slotted .row s) (t .0) (omega (arith, t .1)), t .1)
 
+  -- what a leaf's slot is turned by
+  pub slot-turn : (s : ℕ) → (fixed .slotted .row s < r .count) × (slotOf r (fixed .slotted .row s) ≡ s) → Turn (storedAt (p .turns) s)
+  slot-turn s t =
+      let j = fixed .slotted .row s in
+      subst (λ (i : ℕ). Turn (storedAt (p .turns) i)) (t .1) (rw (fixed .turn j (t .0)) (part-turn (partAt r j) (reversedAt r j)))
+
 -- ---- what one leaf sends
 
 none : Abs (pos 0) waveLimit
@@ -128,11 +135,11 @@ pub record Landed (p : Plan) (r : Record) (ws : List ℤ) (x : ℤ) (above below
   pub fixed : Fixed p r
   pub source : within sourceLimit x ≡ true
   pub calm : within waveLimit (risen (rounded r) r (storedAt ws) x) ≡ true
-  pub quiet : (j : ℕ) → Abs (sent (rounded r) r (storedAt ws) x j) waveLimit
+  pub quiet : (j : ℕ) → Abs (raised (rounded r) r (storedAt ws) x j) waveLimit
   pub still : Loaded r ws above
-  pub sends : (j : ℕ) → isLeaf (partAt r j) ≡ true → storedAt above (slotOf r j) ≡ sent (rounded r) r (storedAt ws) x j
+  pub sends : (j : ℕ) → isLeaf (partAt r j) ≡ true → storedAt above (slotOf r j) ≡ raised (rounded r) r (storedAt ws) x j
   pub rises : storedAt above (topSlot r) ≡ risen (rounded r) r (storedAt ws) x
-  pub arrives : (j : ℕ) → isLeaf (partAt r j) ≡ true → storedAt below (slotOf r j) ≡ arriving (rounded r) (reflected r) r (storedAt ws) x j
+  pub comes : (j : ℕ) → isLeaf (partAt r j) ≡ true → storedAt below (slotOf r j) ≡ reached (rounded r) (reflected r) r (storedAt ws) x j
   pub returns : storedAt below (topSlot r) ≡ reflected r (risen (rounded r) r (storedAt ws) x)
   pub answer : Abs (storedAt below (topSlot r)) waveLimit
   pub modest : Modest below
@@ -145,18 +152,28 @@ module _ {p : Plan} {ups ds : List ℤ} (k : LaidOut p ups ds) (x : ℤ) where
   abbrev r : Record
   r = k .circuit
 
-  -- what row j sends with the sample
+  -- what goes up from row j with the sample
   abbrev pub sendsAt : ℕ → ℤ
-  sendsAt = sent (rounded r) r (storedAt (k .stored)) x
+  sendsAt = raised (rounded r) r (storedAt (k .stored)) x
+
+  -- what goes up from the input
+  abbrev pub entered : ℤ
+  entered = turnedBy (storedAt (p .turns) floor) x
 
   leaf-rises : (j : ℕ) → isLeaf (partAt r j) ≡ true → rises r sendsAt j ≡ sendsAt j
   leaf-rises j e =
       let y = leaf-of (partAt r j) e in
       Trees.up-leaf r (k .fixed .accepted .lower) j (Trees.tree-leaf r (k .fixed .accepted .lower) j (y .0) (y .1)) (rounded r) (ratioAt r) sendsAt
 
-  -- with the sample at the floor every leaf has in its slot what it sends
-  all-sent : (j : ℕ) → j < r .count → isLeaf (partAt r j) ≡ true → storedAt (set ups floor x) (slotOf r j) ≡ sendsAt j
-  unfolding sent
+  -- in the input's row
+  enters : (j : ℕ) → j < r .count → slotOf r j ≡ floor → isInput (partAt r j) ≡ true → entered ≡ turned (rounded r) (reversedAt r j) x
+  enters j l e is =
+      ap (λ s. turnedBy (storedAt (p .turns) s) x) (sym e) ∙ ap (λ t. turnedBy t x) (k .fixed .turn j l)
+      ∙ input-turned (roundingOf (r .version)) (partAt r j) (reversedAt r j) x is
+
+  -- with the sample at the floor every leaf has in its slot what goes up from it
+  all-sent : (j : ℕ) → j < r .count → isLeaf (partAt r j) ≡ true → storedAt (set ups floor entered) (slotOf r j) ≡ sendsAt j
+  unfolding raised sent
   all-sent j l e =
       let y = leaf-of (partAt r j) e in
       rw (sends-either (roundingOf (r .version)) x (storedAt (k .stored) j) (partAt r j))
@@ -164,25 +181,27 @@ module _ {p : Plan} {ups ds : List ℤ} (k : LaidOut p ups ds) (x : ℤ) where
         | inl h ↦
             let other = ap isInput (y .1) ∙ h .1 in
             let apart : slotOf r j ≡ floor → ⊥ = λ q. omega (arith, h .0) in
-            rw other (getD-set-other ups floor (slotOf r j) x (pos 0) apart ∙ k .loaded .leaves j l e other)
-        | inr h ↦ rw (h .0, ap isInput (y .1) ∙ h .1) (getD-set-same ups floor x (pos 0) (omega (arith, k .loaded .long)))
+            rw other (getD-set-other ups floor (slotOf r j) entered (pos 0) apart ∙ k .loaded .leaves j l e other)
+        | inr h ↦
+            let is = ap isInput (y .1) ∙ h .1 in
+            rw (h .0, is) (getD-set-same ups floor entered (pos 0) (omega (arith, k .loaded .long)) ∙ enters j l (h .0) is)
       ])
 
-  pub begun : Risen r sendsAt (suc floor) (set ups floor x)
+  pub begun : Risen r sendsAt (suc floor) (set ups floor entered)
   begun = record {
-    long = length-set ups floor x ∙ k .loaded .long;
+    long = length-set ups floor entered ∙ k .loaded .long;
     right = λ j l h. let e = low-leaf (k .fixed) j l (omega arith) in all-sent j l e ∙ sym (leaf-rises j e);
   }
 
   module _ (source : within sourceLimit x ≡ true) where
     pub quiet : (j : ℕ) → Abs (sendsAt j) waveLimit
-    unfolding sent
-    quiet j = elim (decLt j (r .count)) [
+    unfolding raised sent
+    quiet j = turned-range (roundingOf (r .version)) (reversedAt r j) (elim (decLt j (r .count)) [
       | yes l ↦
           let sound = k .loaded .sound j (omega (arith, k .fixed .accepted .short)) in
           part-quiet (roundingOf (r .version)) x (storedAt (k .stored) j) (partAt r j) source sound (is-true _ (k .fixed .accepted .sound j l))
       | no l ↦ rw (k .fixed .accepted .blank j (omega arith)) none
-    ]
+    ])
 
     abbrev pub swept : Swept (p .shape .inward) (p .joints) (p .shape .adaptors)
     swept = record {
@@ -196,7 +215,7 @@ module _ {p : Plan} {ups ds : List ℤ} (k : LaidOut p ups ds) (x : ℤ) where
       quiet = quiet;
     }
 
-    abbrev pub climbs : Climbs (p .shape .inward) (p .joints) (p .shape .adaptors) (set ups floor x)
+    abbrev pub climbs : Climbs (p .shape .inward) (p .joints) (p .shape .adaptors) (set ups floor entered)
     climbs = record { swept = swept; begun = begun }
 
   -- ---- between the sweeps
@@ -224,7 +243,7 @@ module _ {p : Plan} {ups ds : List ℤ} (k : LaidOut p ups ds) (x : ℤ) where
 
     -- what every leaf but the input sends next is as it was
     pub still : Loaded r (k .stored) above
-    unfolding sent
+    unfolding raised sent
     still = record {
       size = k .loaded .size;
       long = h .up .long;
@@ -263,8 +282,8 @@ module _ {p : Plan} {ups ds : List ℤ} (k : LaidOut p ups ds) (x : ℤ) where
       answered = ap (storedAt (set ds top answer)) (sym top-slot) ∙ answer-there
 
       pub landed : {below : List ℤ} → Reached r sendsAt (set ds top answer) below → Landed p r (k .stored) x above below
-      unfolding arriving
-      landed reached =
+      unfolding reached
+      landed fallen =
           let diode = answered ∙ answers ∙ ap (reflected r) top-wave in
           record {
             fixed = k .fixed;
@@ -274,8 +293,8 @@ module _ {p : Plan} {ups ds : List ℤ} (k : LaidOut p ups ds) (x : ℤ) where
             still = still;
             sends = leaf-risen;
             rises = ap (storedAt above) (sym top-slot) ∙ top-wave;
-            arrives = λ j e. reached .leaves j e ∙ ap (λ z. reach (rounded r) (ratioAt r) sendsAt (treeOf r) z j) diode;
-            returns = reached .above ∙ diode;
-            answer = abs-as answer-range (sym (reached .above ∙ answered)) (omega arith);
-            modest = reached .modest;
+            comes = λ j e. fallen .leaves j e ∙ ap (λ z. reach (rounded r) (ratioAt r) sendsAt (treeOf r) z j) diode;
+            returns = fallen .above ∙ diode;
+            answer = abs-as answer-range (sym (fallen .above ∙ answered)) (omega arith);
+            modest = fallen .modest;
           }

@@ -16,7 +16,7 @@ use Rattle.circuit.specs.declared.Part.the-variants.{Adaptor}
 use Rattle.circuit.specs.declared.Row.{Row}
 use Rattle.circuit.specs.declared.Record.{Record}
 use Rattle.laws.specs.Accepted.{adaptorLimit, Child, Accepted}
-use Rattle.parts.specs.Parts.{roleOf}
+use Rattle.parts.specs.Parts.{roleOf, facingOf}
 use Rattle.engine.specs.declared.plan.Shape.{Shape}
 
 -- ---- slots
@@ -107,6 +107,10 @@ Staged r js = (k : ℕ) → k < adaptorsOf r → Stage r js k
 -- its row; at the top the two waves are the top's and the diode's
 abbrev pub tapRow : Record → ℕ
 tapRow r = cond (eqb (r .tap) top) (r .count - 1) (r .tap)
+
+-- what its two waves are turned by
+abbrev pub meterIn : List Row → ℕ → ℤ
+meterIn rows tap = cond (eqb tap top) (pos 0) (facingOf (rowIn rows tap .reversed))
 
 -- ---- all that the samples of a run read
 

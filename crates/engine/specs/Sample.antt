@@ -1,5 +1,5 @@
 -- One sample over a plan: what the leaves' slots hold, what the plan has to be, and what a sample comes to.
-use Prim.Native.Nat.{ℕ, _*_, _<_, _≤_}
+use Prim.Native.Nat.{ℕ, _*_, _^_, _<_, _≤_}
 use mathlib.Core.Path.{_≡_}
 use mathlib.Core.Logic.{_⊎_}
 use mathlib.Core.Bool.{Bool, true, false, not, _||_}
@@ -9,10 +9,10 @@ use lib.ListN.{length, getD}
 use Rattle.whole.specs.Order.{Abs}
 use Rattle.circuit.specs.Counting.{within, some}
 use Rattle.circuit.specs.Numbers.{done}
-use Rattle.circuit.specs.Record.{partAt, isLeaf, isInput, rowLimit, adaptorsOf}
+use Rattle.circuit.specs.Record.{partAt, reversedAt, isLeaf, isInput, rowLimit, adaptorsOf}
 use Rattle.circuit.specs.Curve.{waveLimit}
 use Rattle.circuit.specs.SetUp.{nothing, preparedRows, setUpReport}
-use Rattle.circuit.specs.Sample.{roundingOf, rounded, sent, sampled, refused, finished, storedAt}
+use Rattle.circuit.specs.Sample.{roundingOf, rounded, raised, sampled, refused, finished, storedAt}
 use Rattle.circuit.specs.Run.{soundWave}
 use Rattle.circuit.specs.declared.Record.{Record}
 use Rattle.laws.specs.Accepted.{Sized, Accepted}
@@ -22,7 +22,7 @@ use Rattle.engine.specs.declared.sample.Outcome.{Outcome}
 use Rattle.engine.specs.declared.sample.Outcome.the-variants.{Loud, Over, Finished}
 use Rattle.engine.specs.Wave.{way}
 use Rattle.engine.specs.Curve.{Drawing}
-use Rattle.engine.specs.Plan.{floor, slotOf, reactives, Slotted, Staged, tapRow, Plan}
+use Rattle.engine.specs.Plan.{floor, slotOf, reactives, Slotted, Staged, tapRow, meterIn, Plan}
 use Rattle.engine.specs.Sweep.{Modest}
 
 -- ---- the leaves' limits
@@ -38,7 +38,7 @@ leafOver n ds = some (overAt ds) n || overAt ds floor
 pub record Calm (all : ℤ) : Type 0 where
   pub few : (n : ℕ) × (all ≡ pos n) × (n < 2 * waveLimit)
 
--- ---- what the leaves keep
+-- ---- what changes sign
 
 abbrev pub Turn : ℤ → Type 0
 Turn t = (t ≡ pos 0) ⊎ (t ≡ negsuc 0)
@@ -47,6 +47,12 @@ Turn t = (t ≡ pos 0) ⊎ (t ≡ negsuc 0)
 abbrev pub turnedBy : ℤ → ℤ → ℤ
 turnedBy (pos n) a = a
 turnedBy (negsuc n) a = negℤ a
+
+-- of a wave that has 32 bits
+abbrev pub turnLimit : ℕ
+turnLimit = 2 ^ 31
+
+-- ---- what the leaves keep
 
 -- the first q slots hold what they keep of the waves that reached them, the others what they held
 pub record Restored (turns ds : List ℤ) (q : ℕ) (ups after : List ℤ) : Type 0 where
@@ -70,6 +76,7 @@ pub record Port (ups ds : List ℤ) (s : ℕ) : Type 0 where
 
 pub record Settles (shape : Shape) (turns ups ds : List ℤ) : Type 0 where
   pub few : shape .adaptors ≤ floor
+  pub meter : Turn (shape .meter)
   pub modest : Modest ds
   -- where no leaf is over its limit
   pub port : leafOver (shape .adaptors) ds ≡ false → Port ups ds (shape .tap)
@@ -80,7 +87,7 @@ unfoldable pub Settled : Shape → List ℤ → List ℤ → List ℤ → Outcom
 Settled shape turns ups ds Loud after = ⊥
 Settled shape turns ups ds Over after = (leafOver (shape .adaptors) ds ≡ true) × (after ≡ ups)
 Settled shape turns ups ds (Finished v) after =
-    (leafOver (shape .adaptors) ds ≡ false) × (v .0 ≡ storedAt ups (shape .tap) +ℤ storedAt ds (shape .tap))
+    (leafOver (shape .adaptors) ds ≡ false) × (v .0 ≡ turnedBy (shape .meter) (storedAt ups (shape .tap) +ℤ storedAt ds (shape .tap)))
     × Restored turns ds (shape .reactive) ups after
 
 -- ---- what is laid out for a run, and what changes from sample to sample
@@ -93,9 +100,10 @@ pub record Fixed (p : Plan) (r : Record) : Type 0 where
   pub adaptors : p .shape .adaptors ≡ adaptorsOf r
   pub reactive : p .shape .reactive ≡ reactives r
   pub tap : p .shape .tap ≡ slotOf r (tapRow r)
+  pub meter : p .shape .meter ≡ meterIn (r .rows) (r .tap)
   pub mirror : p .shape .mirror ≡ mirrorOf (r .kind)
   pub staged : Staged r (p .joints)
-  pub turn : (j : ℕ) → j < r .count → storedAt (p .turns) (slotOf r j) ≡ turnOf (partAt r j)
+  pub turn : (j : ℕ) → j < r .count → storedAt (p .turns) (slotOf r j) ≡ turnOf (partAt r j) (reversedAt r j)
   pub drawn : Drawing r (p .shape .width) (p .lines)
 
 -- the rows' ratios after set-up, of a record that it does not refuse
@@ -104,13 +112,13 @@ pub record Ready (r : Record) (ratios : List ℕ) : Type 0 where
   pub setUp : setUpReport r ≡ done
   pub prepared : (j : ℕ) → j < rowLimit → getD ratios j 0 ≡ getD (preparedRows r) j nothing .ratio
 
--- the stored waves ws pass rule 12, and every leaf but the input has in its slot what it sends next
+-- the stored waves ws pass rule 12, and every leaf but the input has in its slot what goes up from it next
 pub record Loaded (r : Record) (ws ups : List ℤ) : Type 0 where
   pub size : length ws ≡ rowLimit
   pub long : length ups ≡ rowLimit
   pub sound : (j : ℕ) → j < rowLimit → soundWave (partAt r j) (storedAt ws j) ≡ true
   pub leaves : (j : ℕ) → j < r .count → isLeaf (partAt r j) ≡ true → isInput (partAt r j) ≡ false
-      → storedAt ups (slotOf r j) ≡ sent (rounded r) r (storedAt ws) (pos 0) j
+      → storedAt ups (slotOf r j) ≡ raised (rounded r) r (storedAt ws) (pos 0) j
 
 -- it is laid out for a circuit, whichever that is
 pub record LaidOut (p : Plan) (ups ds : List ℤ) : Type 0 where

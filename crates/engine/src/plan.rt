@@ -9,6 +9,8 @@ use circuit::Join;
 use circuit::Part;
 use circuit::ROUNDED_DOWN;
 use circuit::ROWS;
+use circuit::TOP;
+use parts::facing;
 use parts::mirror;
 use parts::role_of;
 use parts::tap_row;
@@ -18,13 +20,15 @@ use sheet::Coordinates;
 use sheet::Heading;
 use sheet::Microvolts;
 use sheet::Values;
+use sheet::is_reversed;
 use sheet::part_in;
 ghost use mathlib.Core.Path.{_≡_};
 ghost use mathlib.Core.List.{List};
 ghost use Prim.Native.Nat.{ℕ, _-_, _≤_, _<_};
-ghost use lib.IntN.{pos};
+ghost use lib.IntN.{ℤ, pos};
+ghost use lib.Ieee.{Float};
 ghost use lib.ListN.{length, getD, set};
-ghost use Rattle.circuit.specs.Record.{rowLimit, partAt, adaptorsOf};
+ghost use Rattle.circuit.specs.Record.{rowLimit, top, rowIn, partAt, reversedAt, adaptorsOf};
 ghost use Rattle.circuit.specs.SetUp.{parts};
 ghost use Rattle.circuit.specs.Sample.{roundingOf, storedAt};
 ghost use Rattle.circuit.specs.declared.Row.{Row};
@@ -35,7 +39,7 @@ ghost use Rattle.parts.specs.Parts.{turnOf, mirrorOf};
 ghost use Rattle.engine.specs.Wave.{way};
 ghost use Rattle.engine.specs.Curve.{lineLimit};
 ghost use Rattle.engine.specs.Plan.{Roled, rank, slotIn, slotOf};
-ghost use Rattle.engine.specs.Plan.{joinOf, jointsOf, Staged, tapRow, planOf, Layable, Seated, Roomy};
+ghost use Rattle.engine.specs.Plan.{joinOf, jointsOf, Staged, tapRow, meterIn, planOf, Layable, Seated, Roomy};
 ghost use Rattle.engine.specs.Sample.{Ready, Fixed};
 
 // Room for the adaptors of a circuit, and for its leaves but the input.
@@ -56,6 +60,8 @@ pub(crate) struct Shape {
     pub reactive: usize,
     // the slot that the tap reads
     pub tap: usize,
+    // -1 where the tap reads a reversed leaf, whose own waves are the opposites of those in its slot; else 0
+    pub meter: i64,
     // waves below this one go to the diode as their opposites
     pub mirror: i64,
     // how many columns the curve has
@@ -94,6 +100,14 @@ pub(crate) fn part_at(cells: &Cells, microvolts: &Microvolts, values: &Values, i
     ensures { λ p. ⌜ p ≡ partIn (now (cells .entry)) (now (microvolts .entry)) (now (values .entry)) i ⌝ }
 {
     part_in(cells[i], microvolts[i], values[i])
+}
+
+// Which way round it is.
+pub(crate) fn reversed_at(cells: &Cells, i: usize) -> bool
+    requires { ⌜ i < rowLimit ⌝ }
+    ensures { λ b. ⌜ ((microvolts : List ℤ) (values : List Float) → b ≡ rowIn (rowsIn (now (cells .entry)) microvolts values) i .reversed) ⌝ }
+{
+    is_reversed(cells[i])
 }
 
 // The rows' roles.
@@ -215,21 +229,32 @@ fn turns_of(
 ) -> [i64; ROWS]
     requires { ⌜ ((r : Record) × Seated (rowsIn (now cells) (now microvolts) (now values)) count (now slots) r) ⌝ }
     ensures { λ t. ⌜ ((r : Record) → Seated (rowsIn (now (cells .entry)) (now (microvolts .entry)) (now (values .entry))) count (now (slots .entry)) r
-        → (j : ℕ) → j < count → storedAt t (slotOf r j) ≡ turnOf (partAt r j)) ⌝ }
+        → (j : ℕ) → j < count → storedAt t (slotOf r j) ≡ turnOf (partAt r j) (reversedAt r j)) ⌝ }
 {
     let mut turns = [0i64; ROWS];
     for i in 0..count {
         let part = part_at(cells, microvolts, values, i);
         let s = slot_at(slots, i);
-        turns[s] = turn(part);
+        turns[s] = turn(part, reversed_at(cells, i));
     }
     turns
 }
 
-fn shape_of(h: Heading, q: usize, slots: &[u8; ROWS]) -> Shape
+// What the tap's two waves are turned by. At the top it reads those that reach the diode and come back, whatever is reversed.
+fn meter_of(tap: u8, cells: &Cells) -> i64
+    requires { ⌜ ((tap ≡ top → ⊥) → tap < rowLimit) ⌝ }
+    ensures { λ m. ⌜ ((microvolts : List ℤ) (values : List Float) → m ≡ meterIn (rowsIn (now (cells .entry)) microvolts values) tap) ⌝ }
+{
+    if tap == TOP {
+        return 0;
+    }
+    facing(reversed_at(cells, wide(tap)))
+}
+
+fn shape_of(h: Heading, q: usize, meter: i64, slots: &[u8; ROWS]) -> Shape
     requires { ⌜ ((r : Record) × (prepared : List ℕ) × (h ≡ headingOf r) × Layable r prepared (now slots)) ⌝ }
     ensures { λ s. ⌜ ((r : Record) (prepared : List ℕ) → h ≡ headingOf r → Layable r prepared (now (slots .entry))
-        → (roundingOf (r .version) ≡ way (s .inward)) × (s .adaptors ≡ adaptorsOf r) × (s .reactive ≡ q) × (s .tap ≡ slotOf r (tapRow r)) × (s .mirror ≡ mirrorOf (r .kind)) × (s .width ≡ r .width)) ⌝ }
+        → (roundingOf (r .version) ≡ way (s .inward)) × (s .adaptors ≡ adaptorsOf r) × (s .reactive ≡ q) × (s .tap ≡ slotOf r (tapRow r)) × (s .meter ≡ meter) × (s .mirror ≡ mirrorOf (r .kind)) × (s .width ≡ r .width)) ⌝ }
 {
     let count = wide(h.count);
     let kind = h.kind;
@@ -239,6 +264,7 @@ fn shape_of(h: Heading, q: usize, slots: &[u8; ROWS]) -> Shape
         adaptors: count / 2,
         reactive: q,
         tap: wide(slots[read]),
+        meter,
         mirror: mirror(kind),
         width: wide(h.width),
     }
@@ -290,5 +316,6 @@ pub(crate) fn lay_out(
     *turns = turns_of(count, cells, microvolts, values, &given);
     lay_lines(wide(h.width), xs, ys, lines);
     *slots = given;
-    shape_of(h, q, &given)
+    let meter = meter_of(h.tap, cells);
+    shape_of(h, q, meter, &given)
 }

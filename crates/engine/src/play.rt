@@ -5,9 +5,11 @@ use crate::plan::JOINTS;
 use crate::plan::Shape;
 use crate::plan::lay_out;
 use crate::plan::part_at;
+use crate::plan::reversed_at;
 use crate::plan::wide;
 use crate::sample::Outcome;
 use crate::sample::sample;
+use crate::sample::turned;
 use crate::slot::slot_at;
 use circuit::Answer;
 use circuit::Doubled;
@@ -15,6 +17,7 @@ use circuit::Progress;
 use circuit::ROWS;
 use circuit::State;
 use circuit::Wave;
+use parts::facing;
 use parts::part_sends;
 use parts::part_taken;
 use sheet::Cells;
@@ -36,7 +39,7 @@ ghost use Rattle.engine.specs.Plan.{jointsOf, planOf, Seated};
 ghost use Rattle.engine.specs.Sample.{Loaded, LaidOut};
 ghost use Rattle.engine.specs.Play.{Plays, Playable};
 
-// What each row sends from its stored wave, in its slot; the input's slot waits for a sample.
+// What goes up from each row with its stored wave, in its slot; the input's slot waits for a sample.
 pub(crate) fn load(
     count: usize,
     cells: &Cells,
@@ -53,14 +56,14 @@ pub(crate) fn load(
     for i in 0..count {
         let part = part_at(cells, microvolts, values, i);
         let sent = part_sends(part, state.waves[i]);
-        let next = sent.0;
+        let next = turned(facing(reversed_at(cells, i)), sent as i64);
         let s = slot_at(slots, i);
         up[s] = next;
     }
     up
 }
 
-// The stored waves, out of what the rows send next.
+// The stored waves, out of what goes up from the rows next.
 pub(crate) fn unload(
     count: usize,
     cells: &Cells,
@@ -80,7 +83,7 @@ pub(crate) fn unload(
         let part = part_at(cells, microvolts, values, i);
         let s = slot_at(slots, i);
         let taken = part_taken(part, Wave(up[s]));
-        let stored = taken.0 as i32;
+        let stored = turned(facing(reversed_at(cells, i)), taken.0) as i32;
         state.waves[i] = stored;
     }
     state

@@ -25,7 +25,7 @@ ghost use Rattle.laws.specs.Accepted.{adaptorLimit};
 ghost use Rattle.engine.specs.Wave.{downLimit};
 ghost use Rattle.engine.specs.Plan.{floor, jointsOf, planOf};
 ghost use Rattle.engine.specs.Sweep.{Modest};
-ghost use Rattle.engine.specs.Sample.{overAt, leafOver, Calm, Turn, turnedBy, Restored, Restores, Settles, Settled, LaidOut, Samples};
+ghost use Rattle.engine.specs.Sample.{overAt, leafOver, Calm, Turn, turnedBy, turnLimit, Restored, Restores, Settles, Settled, LaidOut, Samples};
 
 // What is gathered so far, and one wave more, with its limit of 2^26 added. Of a wave over the limit that sum is negative or past 2^27, and leaves a
 // bit from 2^27 on.
@@ -80,15 +80,16 @@ fn leaf_over(n: usize, down: &[i64; ROWS]) -> bool
     any_over(n, down) | !Wave(down[FLOOR]).in_limit()
 }
 
-// A capacitor keeps the wave that reaches it, an inductor its opposite: with -1 all bits are turned, and one is added.
-fn turned(turn: i64, a: i64) -> i64
-    requires { ⌜ Turn turn × Abs a waveLimit ⌝ }
+// A wave as it is, with 0, or its opposite: with -1 all bits are turned, and one is added.
+pub(crate) fn turned(turn: i64, a: i64) -> i64
+    requires { ⌜ Turn turn × Abs a turnLimit ⌝ }
     ensures { λ r. ⌜ r ≡ turnedBy turn a ⌝ }
 {
     (a ^ turn) - turn
 }
 
-// The first `q` slots, the reactive leaves', keep their waves to send them with the next sample.
+// The first `q` slots, the reactive leaves', keep their waves to send them with the next sample: a capacitor the wave that came down, an inductor its
+// opposite.
 fn store(turns: &[i64; ROWS], q: usize, down: &[i64; ROWS], up: &mut [i64; ROWS])
     requires { ⌜ Restores (now turns) q (now up) (now down) ⌝ }
     ensures { λ r. ⌜ Restored (now (turns .entry)) (now (down .entry)) q (now (up .entry)) (now (up .exit)) ⌝ }
@@ -98,12 +99,12 @@ fn store(turns: &[i64; ROWS], q: usize, down: &[i64; ROWS], up: &mut [i64; ROWS]
     }
 }
 
-// Twice the voltage at a port is the sum of its two waves.
-fn tapped(sent: Wave, arriving: Wave) -> Doubled
-    requires { ⌜ Abs (sent .0) waveLimit × Abs (arriving .0) waveLimit ⌝ }
-    ensures { λ r. ⌜ r .0 ≡ sent .0 +ℤ arriving .0 ⌝ }
+// Twice the voltage at a port is the sum of its two waves. Those of a reversed leaf change sign between its slot and the leaf, and so does the sum.
+fn tapped(meter: i64, up: Wave, down: Wave) -> Doubled
+    requires { ⌜ Turn meter × Abs (up .0) waveLimit × Abs (down .0) waveLimit ⌝ }
+    ensures { λ r. ⌜ r .0 ≡ turnedBy meter (up .0 +ℤ down .0) ⌝ }
 {
-    Doubled((sent.0 + arriving.0) as i32)
+    Doubled(turned(meter, up.0 + down.0) as i32)
 }
 
 // What a sample comes to.
@@ -122,7 +123,7 @@ fn settle(shape: Shape, turns: &[i64; ROWS], up: &mut [i64; ROWS], down: &[i64; 
         return Outcome::Over;
     }
     let tap = shape.tap;
-    let output = tapped(wave_at(up, tap), wave_at(down, tap));
+    let output = tapped(shape.meter, wave_at(up, tap), wave_at(down, tap));
     store(turns, shape.reactive, down, up);
     Outcome::Finished(output)
 }
@@ -147,8 +148,7 @@ pub(crate) fn sample(
         return Outcome::Loud;
     }
     let n = shape.adaptors;
-    let wave = x as i64;
-    up[FLOOR] = wave;
+    up[FLOOR] = turned(turns[FLOOR], x as i64);
     sweep_up(shape.inward, joins, firsts, seconds, ratios, n, up);
     let high = up[FLOOR + n];
     let risen = Wave(high);

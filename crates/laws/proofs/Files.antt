@@ -8,7 +8,7 @@ use Rattle.circuit.specs.File.{fileLength, blockLength, bytes, block, zeros, fi
 use Rattle.circuit.specs.Text.{text}
 use Rattle.circuit.specs.Listing.{listing}
 use Rattle.circuit.proofs.Working.{working}
-use Rattle.circuit.proofs.Circuits.{versioned, case1}
+use Rattle.circuit.proofs.Circuits.{versioned, reversing, case1}
 use Rattle.circuit.proofs.Refusals.{Line, gives}
 
 files : List Line
@@ -24,6 +24,9 @@ files =
     ∷ gives (readReport (block 0 [] ++ block 1 [] ++ block 2 [])) (report 3 0)
     ∷ gives (readReport (block 0 (bytes 2 3 ++ zeros 4 ++ bytes 1 1) ++ block 1 [] ++ block 2 [])) (report 3 0)
     ∷ gives (readReport (block 0 (bytes 2 2 ++ zeros 4 ++ bytes 1 1) ++ block 1 [] ++ block 2 [])) (report 4 0)
+    -- case 1 with its adaptor marked, and with its resistor
+    ∷ gives (readReport (fileOf (reversing 2 case1))) (report 4 0)
+    ∷ gives (readReport (fileOf (reversing 1 case1))) done
     ∷ []
 
 -- with its first line apart, the table is worked out once, and not once for each side

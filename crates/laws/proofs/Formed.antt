@@ -12,7 +12,7 @@ use lib.Dec.{eqb, leb}
 use lib.ListN.{List·getD-eq-default}
 use Rattle.circuit.specs.Counting.{one}
 use Rattle.circuit.specs.Numbers.{passes}
-use Rattle.circuit.specs.Record.{rowLimit, columnLimit, partAt, isBlank, isSet, formRule, notLower, childrenRule, names, uses, usedOnceRule}
+use Rattle.circuit.specs.Record.{rowLimit, columnLimit, blankRow, partAt, isBlank, isSet, formRule, notLower, childrenRule, names, uses, usedOnceRule}
 use Rattle.circuit.specs.declared.Part.{Part}
 use Rattle.circuit.specs.declared.Part.the-variants.{Blank, Leaf, Adaptor}
 use Rattle.circuit.specs.declared.Record.{Record}
@@ -51,7 +51,7 @@ formed r e =
       narrow = leb-true 2 (r .width) (width .0);
       wide = leb-true (r .width) columnLimit (width .1);
       set = third .1;
-      rows = λ j l. beq-true _ _ (Counting.every-true _ rowLimit (second .1) j l);
+      rows = λ j l. beq-true _ _ (and-eq-true-iff _ _ .0 (Counting.every-true _ rowLimit (second .1) j l) .0);
     }
 
 is-blank : (p : Part) → isBlank p ≡ true → p ≡ Blank
@@ -68,7 +68,7 @@ module _ (r : Record) (f : Formed r) where
     where
       by : Dec (j < rowLimit) → partAt r j ≡ Blank
       by (yes h) = is-blank (partAt r j) (f .rows j h ∙ le-leb (r .count) j l)
-      by (no h) = ap (λ x. x .part) (List·getD-eq-default (r .rows) (record { part = Blank }) (let size = s .rows in omega arith))
+      by (no h) = ap (λ x. x .part) (List·getD-eq-default (r .rows) blankRow (let size = s .rows in omega arith))
 
 -- ---- rule 6: children are lower
 

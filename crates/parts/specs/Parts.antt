@@ -1,6 +1,6 @@
 -- What one part of a circuit is to a run.
 use Prim.Native.Nat.{ℕ}
-use mathlib.Core.Bool.{cond}
+use mathlib.Core.Bool.{Bool, true, false, cond}
 use lib.IntN.{ℤ, pos, negsuc, negℤ}
 use Rattle.circuit.specs.Curve.{waveLimit}
 use Rattle.circuit.specs.Run.{isReactive}
@@ -21,15 +21,21 @@ roleOf (Leaf (Input r)) = 2
 roleOf (Leaf (Steady r v)) = 1
 roleOf (Adaptor a) = 3
 
--- an inductor stores the opposite of the wave that reaches it
-abbrev pub turnOf : Part → ℤ
-turnOf Blank = pos 0
-turnOf (Leaf (Resistor r)) = pos 0
-turnOf (Leaf (Capacitor c)) = pos 0
-turnOf (Leaf (Inductor l)) = negsuc 0
-turnOf (Leaf (Input r)) = pos 0
-turnOf (Leaf (Steady r v)) = pos 0
-turnOf (Adaptor a) = pos 0
+-- what the waves of a leaf are turned by between it and the tree: −1 is the other sign
+abbrev pub facingOf : Bool → ℤ
+facingOf true = negsuc 0
+facingOf false = pos 0
+
+-- What a row's wave is turned by on its way into the tree. The input sends its sample, reversed or not. A reactive leaf sends what came down to its
+-- row, and an inductor the opposite of that: where it is reversed it has changed sign on its way to the leaf too.
+abbrev pub turnOf : Part → Bool → ℤ
+turnOf Blank reversed = pos 0
+turnOf (Leaf (Resistor r)) reversed = pos 0
+turnOf (Leaf (Capacitor c)) reversed = pos 0
+turnOf (Leaf (Inductor l)) reversed = negsuc 0
+turnOf (Leaf (Input r)) reversed = facingOf reversed
+turnOf (Leaf (Steady r v)) reversed = pos 0
+turnOf (Adaptor a) reversed = pos 0
 
 -- a reactive leaf's stored wave; any other has none
 abbrev pub takenOut : Element → ℤ → ℤ

@@ -1,5 +1,5 @@
-// What one part of a circuit is to a run: a row's role among the slots, what it sends from its stored wave and what it keeps, whether it turns the
-// wave over, the row that a tap reads, and the wave from which on a curve answers by its drawn line.
+// What one part of a circuit is to a run: a row's role among the slots, what it sends from its stored wave and what it keeps, which of its waves
+// change sign, the row that a tap reads, and the wave from which on a curve answers by its drawn line.
 use circuit::CurveKind;
 use circuit::Element;
 use circuit::Part;
@@ -13,7 +13,7 @@ ghost use lib.IntN.{pos};
 ghost use Rattle.circuit.specs.Record.{top};
 ghost use Rattle.circuit.specs.Sample.{Rounding, wholeWaves, sends, partSends};
 ghost use Rattle.circuit.specs.declared.Part.the-variants.{Leaf};
-ghost use Rattle.parts.specs.Parts.{roleOf, turnOf, takenOut, partTaken, mirrorOf};
+ghost use Rattle.parts.specs.Parts.{roleOf, facingOf, turnOf, takenOut, partTaken, mirrorOf};
 
 fn leaf_role(e: Element) -> u8
     ensures { λ c. ⌜ c ≡ roleOf (Leaf e) ⌝ }
@@ -38,26 +38,26 @@ pub fn role_of(p: Part) -> u8
     }
 }
 
-fn sent(e: Element, stored: i32) -> Wave
-    ensures { λ r. ⌜ ((ρ : Rounding) → r .0 ≡ sends (wholeWaves ρ) (pos 0) stored e) ⌝ }
+fn sent(e: Element, stored: i32) -> i32
+    ensures { λ r. ⌜ ((ρ : Rounding) → r ≡ sends (wholeWaves ρ) (pos 0) stored e) ⌝ }
 {
     match e {
-        Element::Resistor(_) => Wave(0),
-        Element::Capacitor(_) => Wave(stored as i64),
-        Element::Inductor(_) => Wave(stored as i64),
-        Element::Input(_) => Wave(0),
-        Element::Steady(_, v) => Wave(v as i64),
+        Element::Resistor(_) => 0,
+        Element::Capacitor(_) => stored,
+        Element::Inductor(_) => stored,
+        Element::Input(_) => 0,
+        Element::Steady(_, v) => v,
     }
 }
 
-// What a row that is no adaptor sends from its stored wave, however adaptors round; the input waits for a sample.
-pub fn part_sends(part: Part, stored: i32) -> Wave
-    ensures { λ r. ⌜ ((ρ : Rounding) → r .0 ≡ partSends (wholeWaves ρ) (pos 0) stored part) ⌝ }
+// What a row that is no adaptor sends from its stored wave, in microvolts, however adaptors round; the input waits for a sample.
+pub fn part_sends(part: Part, stored: i32) -> i32
+    ensures { λ r. ⌜ ((ρ : Rounding) → r ≡ partSends (wholeWaves ρ) (pos 0) stored part) ⌝ }
 {
     match part {
-        Part::Blank => Wave(0),
+        Part::Blank => 0,
         Part::Leaf(e) => sent(e, stored),
-        Part::Adaptor(_) => Wave(0),
+        Part::Adaptor(_) => 0,
     }
 }
 
@@ -82,25 +82,33 @@ pub fn part_taken(part: Part, next: Wave) -> Wave
     }
 }
 
-fn leaf_turn(e: Element) -> i64
-    ensures { λ t. ⌜ t ≡ turnOf (Leaf e) ⌝ }
+// -1 of a reversed leaf, whose waves change sign between it and the tree; else 0.
+pub fn facing(reversed: bool) -> i64
+    ensures { λ t. ⌜ t ≡ facingOf reversed ⌝ }
+{
+    if reversed { -1 } else { 0 }
+}
+
+fn leaf_turn(e: Element, reversed: bool) -> i64
+    ensures { λ t. ⌜ t ≡ turnOf (Leaf e) reversed ⌝ }
 {
     match e {
         Element::Resistor(_) => 0,
         Element::Capacitor(_) => 0,
         Element::Inductor(_) => -1,
-        Element::Input(_) => 0,
+        Element::Input(_) => facing(reversed),
         Element::Steady(_, _) => 0,
     }
 }
 
-// -1 of an inductor, which stores the opposite of the wave that reaches it; 0 of any other part.
-pub fn turn(p: Part) -> i64
-    ensures { λ t. ⌜ t ≡ turnOf p ⌝ }
+// -1 of an inductor, which sends the opposite of the wave that came down, and of a reversed input, which sends the opposite of its sample; else 0.
+// A reversed leaf's wave that comes down and goes up again has changed sign twice.
+pub fn turn(p: Part, reversed: bool) -> i64
+    ensures { λ t. ⌜ t ≡ turnOf p reversed ⌝ }
 {
     match p {
         Part::Blank => 0,
-        Part::Leaf(e) => leaf_turn(e),
+        Part::Leaf(e) => leaf_turn(e, reversed),
         Part::Adaptor(_) => 0,
     }
 }

@@ -116,7 +116,7 @@ pub fn find_ports(
 pub fn set_up(r: Record) -> SetUp
     ensures { λ s. ⌜ SetsUp r s ⌝ }
 {
-    let mut cells = [[0; 3]; ROWS];
+    let mut cells = [[0; 4]; ROWS];
     let mut microvolts = [0; ROWS];
     let mut values = [0.0; ROWS];
     let mut xs = [0; COLUMNS];

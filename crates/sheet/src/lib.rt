@@ -1,13 +1,13 @@
 // A record as lists of numbers, a sheet, which can be lent. An array of structs goes into a function by value, and a copy of the rows for every
 // rule that reads them would cost more than the rules do.
 ghost use mathlib.Core.Path.{_≡_};
-ghost use Rattle.circuit.specs.Counting.{table};
-ghost use Rattle.circuit.specs.Record.{columnLimit};
+ghost use Rattle.circuit.specs.Counting.{one, table};
+ghost use Rattle.circuit.specs.Record.{rowLimit, columnLimit};
 ghost use Rattle.circuit.specs.File.{partOf};
 ghost use Rattle.circuit.specs.declared.Part.the-variants.{Leaf, Adaptor as Joined};
 ghost use Rattle.laws.specs.Accepted.{origin};
-ghost use lib.ListN.{getD};
-ghost use Rattle.sheet.specs.Sheet.{cellOf, microvoltsOf, valueOf, partBy, Filled, Spread};
+ghost use lib.ListN.{length, getD};
+ghost use Rattle.sheet.specs.Sheet.{cellOf, markedCell, microvoltsOf, valueOf, partBy, reversedBy, Filled, Spread};
 use circuit::Adaptor;
 use circuit::COLUMNS;
 use circuit::Column;
@@ -19,8 +19,8 @@ use circuit::ROWS;
 use circuit::Record;
 use circuit::Row;
 
-// Of a row: its kind, by the number that a file has for it, and its first and second child. What a kind does not use is 0.
-pub type Cell = [u8; 3];
+// Of a row: its kind, by the number that a file has for it, its first and second child, and its reversed mark. What a kind does not use is 0.
+pub type Cell = [u8; 4];
 
 pub type Cells = [Cell; ROWS];
 
@@ -44,33 +44,41 @@ pub struct Heading {
     pub resistance: f64,
 }
 
+// The mark of a row as a number.
+pub fn mark_of(reversed: bool) -> u8
+    ensures { λ m. ⌜ m ≡ one reversed ⌝ }
+{
+    if reversed { 1 } else { 0 }
+}
+
 fn leaf_cell(e: Element) -> Cell
-    ensures { λ c. ⌜ c ≡ cellOf (Leaf e) ⌝ }
+    ensures { λ c. ⌜ c ≡ cellOf (Leaf e) 0 ⌝ }
 {
     match e {
-        Element::Resistor(_) => [1, 0, 0],
-        Element::Capacitor(_) => [2, 0, 0],
-        Element::Inductor(_) => [3, 0, 0],
-        Element::Input(_) => [4, 0, 0],
-        Element::Steady(_, _) => [5, 0, 0],
+        Element::Resistor(_) => [1, 0, 0, 0],
+        Element::Capacitor(_) => [2, 0, 0, 0],
+        Element::Inductor(_) => [3, 0, 0, 0],
+        Element::Input(_) => [4, 0, 0, 0],
+        Element::Steady(_, _) => [5, 0, 0, 0],
     }
 }
 
 fn adaptor_cell(a: Adaptor) -> Cell
-    ensures { λ c. ⌜ c ≡ cellOf (Joined a) ⌝ }
+    ensures { λ c. ⌜ c ≡ cellOf (Joined a) 0 ⌝ }
 {
     let join = a.join;
     match join {
-        Join::Series => [6, a.first, a.second],
-        Join::Parallel => [7, a.first, a.second],
+        Join::Series => [6, a.first, a.second, 0],
+        Join::Parallel => [7, a.first, a.second, 0],
     }
 }
 
+// A part's cell, not marked.
 fn cell_of(p: Part) -> Cell
-    ensures { λ c. ⌜ c ≡ cellOf p ⌝ }
+    ensures { λ c. ⌜ c ≡ cellOf p 0 ⌝ }
 {
     match p {
-        Part::Blank => [0, 0, 0],
+        Part::Blank => [0, 0, 0, 0],
         Part::Leaf(e) => leaf_cell(e),
         Part::Adaptor(a) => adaptor_cell(a),
     }
@@ -120,10 +128,11 @@ fn value_of(p: Part) -> f64
     }
 }
 
+// All of the rows but their marks.
 fn lay_rows(rows: [Row; ROWS], cells: &mut Cells, microvolts: &mut Microvolts, values: &mut Values)
-    ensures { λ u. ⌜ Filled rows (now (cells .exit)) (now (microvolts .exit)) (now (values .exit)) ⌝ }
+    ensures { λ u. ⌜ Filled (λ w. 0) rows (now (cells .exit)) (now (microvolts .exit)) (now (values .exit)) ⌝ }
 {
-    let mut row_cells = [[0; 3]; ROWS];
+    let mut row_cells = [[0; 4]; ROWS];
     let mut row_microvolts = [0; ROWS];
     let mut row_values = [0.0; ROWS];
     for j in 0..ROWS {
@@ -137,6 +146,17 @@ fn lay_rows(rows: [Row; ROWS], cells: &mut Cells, microvolts: &mut Microvolts, v
     *cells = row_cells;
     *microvolts = row_microvolts;
     *values = row_values;
+}
+
+// The rows' marks, in a loop of their own: a cell that is put together with its mark costs half as much again.
+fn lay_marks(rows: [Row; ROWS], cells: &mut Cells)
+    requires { ⌜ length (now cells) ≡ rowLimit ⌝ }
+    ensures { λ u. ⌜ now (cells .exit) ≡ table (markedCell rows (now (cells .entry))) rowLimit ⌝ }
+{
+    for j in 0..ROWS {
+        let row = rows[j];
+        cells[j][3] = mark_of(row.reversed);
+    }
 }
 
 fn lay_columns(columns: [Column; COLUMNS], xs: &mut Coordinates, ys: &mut Coordinates)
@@ -171,6 +191,7 @@ pub fn lay(
     let columns = r.columns;
     let kind = r.kind;
     lay_rows(rows, cells, microvolts, values);
+    lay_marks(rows, cells);
     lay_columns(columns, xs, ys);
     Heading {
         version: r.version,
@@ -212,4 +233,11 @@ pub fn part_in(cell: Cell, microvolts: i32, value: f64) -> Part
     ensures { λ p. ⌜ p ≡ partBy cell microvolts value ⌝ }
 {
     part_of(cell[0], cell[1], cell[2], microvolts, value)
+}
+
+// Whether a row's numbers stand for a part that is reversed.
+pub fn is_reversed(cell: Cell) -> bool
+    ensures { λ b. ⌜ b ≡ reversedBy cell ⌝ }
+{
+    cell[3] == 1
 }

@@ -12,10 +12,10 @@ use Rattle.whole.specs.Quotients.{floor-rounds}
 use Rattle.whole.specs.Fraction.{Fraction, whole}
 use Rattle.whole.specs.Nearness.{Near, near-le, near-whole, near-neg, near-add}
 use Rattle.circuit.specs.Numbers.{done}
-use Rattle.circuit.specs.Record.{rowLimit, top, partAt, adaptorsOf, treeOf}
+use Rattle.circuit.specs.Record.{rowLimit, top, partAt, reversedAt, adaptorsOf, treeOf}
 use Rattle.circuit.specs.SetUp.{parts, ratioAt, setUpReport}
 use Rattle.circuit.specs.Curve.{line, reflected}
-use Rattle.circuit.specs.Sample.{Arithmetic, Rounding, wholeWaves, roundedDown, roundedToZero, roundingOf, rounded, unrounded, sends, stores, partSends, partStores, sent, risen, arriving, kept, output, h, finished, storedAt, sampled}
+use Rattle.circuit.specs.Sample.{Arithmetic, Rounding, wholeWaves, roundedDown, roundedToZero, roundingOf, rounded, unrounded, sends, stores, partSends, partStores, turned, sent, raised, risen, reached, arriving, kept, output, h, finished, storedAt, sampled}
 use Rattle.circuit.specs.declared.Element.{Element}
 use Rattle.circuit.specs.declared.Element.the-variants.{Resistor, Capacitor, Inductor, Input, Steady}
 use Rattle.circuit.specs.declared.Part.{Part}
@@ -71,6 +71,11 @@ module _ (ρ : Rounding) where
     part-stores (Leaf e) = leaf-stores e
     part-stores (Adaptor d) = none-near
 
+    -- which way round it is changes nothing of a distance
+    turned-near : (b : Bool) → Near E (turned 𝓡 b a) (turned unrounded b q)
+    turned-near true = near-neg n
+    turned-near false = n
+
   -- ---- an accepted circuit, with any answer and any curve
 
   module _ (errs : ErrsByOne ρ) {answer : ℤ → ℤ} {curve : Fraction → Fraction} (follows : Follows answer curve) (gently : Gently curve)
@@ -88,17 +93,25 @@ module _ (ρ : Rounding) where
     unfolding sent
     sent-near j = part-sends x (stored j) (partAt r j)
 
+    raised-near : (j : ℕ) → Near 0 (raised 𝓡 r stored x j) (raised unrounded r stored′ x j)
+    unfolding raised
+    raised-near j = turned-near (sent-near j) (reversedAt r j)
+
     risen-near : Near N (risen 𝓡 r stored x) (risen unrounded r stored′ x)
     unfolding risen
-    risen-near = rw (← accepted .whole) (up-near errs (ratioAt r) fair (sent 𝓡 r stored x) (sent unrounded r stored′ x) sent-near (treeOf r))
+    risen-near = rw (← accepted .whole) (up-near errs (ratioAt r) fair (raised 𝓡 r stored x) (raised unrounded r stored′ x) raised-near (treeOf r))
 
     diode : Echo 1 (risen 𝓡 r stored x) (risen unrounded r stored′ x) (answer (risen 𝓡 r stored x)) (curve (risen unrounded r stored′ x))
     diode = echo-diode (gently .moves (whole (risen 𝓡 r stored x)) (risen unrounded r stored′ x)) (follows .near (risen 𝓡 r stored x))
 
+    reached-near : (j : ℕ) → Near (leastLimit N) (reached 𝓡 answer r stored x j) (reached unrounded curve r stored′ x j)
+    unfolding reached risen
+    reached-near j =
+        rw (← accepted .whole) (reach-near errs (ratioAt r) fair (raised 𝓡 r stored x) (raised unrounded r stored′ x) raised-near (treeOf r) j diode)
+
     arriving-near : (j : ℕ) → Near (leastLimit N) (arriving 𝓡 answer r stored x j) (arriving unrounded curve r stored′ x j)
-    unfolding arriving risen
-    arriving-near j =
-        rw (← accepted .whole) (reach-near errs (ratioAt r) fair (sent 𝓡 r stored x) (sent unrounded r stored′ x) sent-near (treeOf r) j diode)
+    unfolding arriving
+    arriving-near j = turned-near (reached-near j) (reversedAt r j)
 
     pub kept-near : (j : ℕ) → Near (leastLimit N) (kept 𝓡 answer r stored x j) (kept unrounded curve r stored′ x j)
     unfolding kept

@@ -6,5 +6,8 @@ pub mod RunBound
 pub mod Curve
 pub mod OneAnswer
 pub mod Knee
+pub mod Changed
 pub mod Odd
 pub mod Opposite
+pub mod Flipped
+pub mod Reversed

@@ -4,4 +4,6 @@ pub mod Pieces
 pub mod Takes
 pub mod Curve
 pub mod Knee
+pub mod Changed
 pub mod Opposite
+pub mod Reversed

@@ -2,18 +2,19 @@
 use Prim.Native.Nat.{ℕ, _<_}
 use mathlib.Core.Path.{_≡_}
 use mathlib.Core.List.{List, map}
-use lib.ListN.{take, getD}
+use lib.ListN.{getD}
 use lib.IntN.{ℤ, pos, _+ℤ_, negℤ}
 use Rattle.circuit.specs.Numbers.{handed}
 use Rattle.circuit.specs.Record.{partAt}
-use Rattle.circuit.specs.Sample.{Rounding, Sampled, refused, finished}
-use Rattle.circuit.specs.Run.{Played, Ran}
+use Rattle.circuit.specs.Sample.{Rounding}
+use Rattle.circuit.specs.Run.{Ran}
 use Rattle.circuit.specs.declared.Element.the-variants.{Resistor, Capacitor, Inductor, Input, Steady}
 use Rattle.circuit.specs.declared.Part.{Part}
 use Rattle.circuit.specs.declared.Part.the-variants.{Blank, Leaf, Adaptor}
 use Rattle.circuit.specs.declared.CurveKind.the-variants.{Pair}
 use Rattle.circuit.specs.declared.Record.{Record}
 use Rattle.circuit.specs.declared.Progress.{Progress}
+use Rattle.theorems.specs.Changed.{Changed}
 
 -- ---- what turns over
 
@@ -32,10 +33,14 @@ Silent (Leaf (Input r)) = Unit {0}
 Silent (Leaf (Steady r v)) = v ≡ pos 0
 Silent (Adaptor a) = Unit {0}
 
--- version 2 with a pair, and no steady source but at 0
-pub record Balanced (r : Record) : Type 0 where
+-- version 2 with a pair: its rounding and its diode turn over
+pub record Even (r : Record) : Type 0 where
   pub version : r .version ≡ 2
   pub kind : r .kind ≡ Pair
+
+-- and no steady source but at 0
+pub record Balanced (r : Record) : Type 0 where
+  pub even : Even r
   pub silent : (j : ℕ) → Silent (partAt r j)
 
 -- ---- beside it
@@ -43,20 +48,9 @@ pub record Balanced (r : Record) : Type 0 where
 abbrev pub opposite : List ℤ → List ℤ
 opposite = map negℤ
 
--- a refused sample is refused alike
-abbrev pub opposed : Sampled → Sampled
-opposed (refused n) = refused n
-opposed (finished v next) = finished (negℤ v) (opposite next)
-
-abbrev pub opposedPlay : Played → Played
-opposedPlay p = record { number = p .number; outputs = opposite (p .outputs); waves = opposite (p .waves) }
-
 -- two runs: the same number, place and samples done; opposite waves, and opposite outputs of the samples done
-pub record Opposed (a b : Ran) : Type 0 where
-  pub handedBack : b .handedBack ≡ a .handedBack
-  pub samples : b .samples ≡ a .samples
-  pub waves : b .waves ≡ opposite (a .waves)
-  pub outputs : take (b .samples) (b .output) ≡ opposite (take (a .samples) (a .output))
+abbrev pub Opposed : Ran → Ran → Type 0
+Opposed = Changed negℤ opposite
 
 -- the same in a run's words: each output of the one and that of the other add up to nothing
 pub record Nulls (p q : Progress) (out inverse : List ℤ) : Type 0 where

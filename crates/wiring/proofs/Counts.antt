@@ -1,5 +1,5 @@
 -- Counts over the rows: of uses, up to two, in one list for all rows; and of a test, which counts once at most.
-use Prim.Native.Nat.{ℕ, zero, suc, _+_, _<_, _≤_, min}
+use Prim.Native.Nat.{ℕ, zero, suc, _+_, _<_, min}
 use native.Mathlib.Nat.{add-zero, add-assoc}
 use native.Mathlib.Numerals.{add-one}
 use native.Mathlib.Omega.{arith}
@@ -16,10 +16,6 @@ use Rattle.circuit.specs.declared.Part.{Part}
 use Rattle.circuit.specs.declared.Part.the-variants.{Blank, Leaf, Adaptor}
 use Rattle.circuit.specs.declared.Row.{Row}
 use Rattle.wiring.specs.Uses.{useMore, usesBy, usesIn}
-
-pub one-small : (b : Bool) → one b ≤ 1
-one-small true = omega arith
-one-small false = omega arith
 
 -- ---- uses
 

@@ -1,38 +1,44 @@
-// Rule 4, the form of a record: its counts, its kind of curve, and which rows and columns are blank. Rule 5, its rate.
+// Rule 4, the form of a record: its counts, its kind of curve, which rows and columns are blank, and which rows are reversed. Rule 5, its rate.
 
 ghost use mathlib.Core.Path.{_≡_};
-ghost use mathlib.Core.Bool.{_&&_, _||_, Bool·beq};
+ghost use mathlib.Core.Bool.{_&&_, _||_};
+ghost use mathlib.Core.List.{List};
 ghost use Prim.Native.Nat.{_≤_};
-ghost use lib.Dec.{leb, ltb};
+ghost use lib.Dec.{ltb};
+ghost use lib.IntN.{ℤ};
+ghost use lib.Ieee.{Float};
 ghost use Rattle.circuit.specs.Counting.{between, every};
 ghost use Rattle.circuit.specs.Numbers.{handed, unless};
-ghost use Rattle.circuit.specs.Record.{rowLimit, columnLimit, lowestRate, highestRate, isBlank, isSet, atOrigin, formRule};
+ghost use Rattle.circuit.specs.Record.{rowLimit, columnLimit, lowestRate, highestRate, rowIn, isBlank, isLeaf, isSet, atOrigin, inForm, formRule};
 ghost use Rattle.laws.specs.Numbered.{numbered};
-ghost use Rattle.sheet.specs.Sheet.{rowsIn, columnsIn, partIn, columnIn, recordIn};
+ghost use Rattle.sheet.specs.Sheet.{partBy, rowsIn, columnsIn, columnIn, recordIn};
 use circuit::Answer;
 use circuit::COLUMNS;
 use circuit::Column;
 use circuit::CurveKind;
 use circuit::HIGHEST_RATE;
 use circuit::LOWEST_RATE;
-use circuit::Part;
 use circuit::ROWS;
 use measure::at_origin;
+use sheet::Cell;
 use sheet::Cells;
 use sheet::Coordinates;
 use sheet::Heading;
 use sheet::Microvolts;
 use sheet::Values;
-use sheet::part_in;
+use sheet::is_reversed;
 
-fn is_blank(p: Part) -> bool
-    ensures { λ b. ⌜ b ≡ isBlank p ⌝ }
+// Whether a row's numbers stand for no part: its kind is 0, or past the list of kinds.
+fn is_blank(cell: Cell) -> bool
+    ensures { λ b. ⌜ ((v : ℤ) (x : Float) → b ≡ isBlank (partBy cell v x)) ⌝ }
 {
-    match p {
-        Part::Blank => true,
-        Part::Leaf(_) => false,
-        Part::Adaptor(_) => false,
-    }
+    (cell[0] == 0) | (7 < cell[0])
+}
+
+fn is_leaf(cell: Cell) -> bool
+    ensures { λ b. ⌜ ((v : ℤ) (x : Float) → b ≡ isLeaf (partBy cell v x)) ⌝ }
+{
+    (1 <= cell[0]) & (cell[0] <= 5)
 }
 
 fn is_set(k: CurveKind) -> bool
@@ -55,14 +61,15 @@ fn has_counts(h: Heading) -> bool
     rows & columns & is_set(kind)
 }
 
-// Rows past the count are blank, and no other row is.
-fn blank_rows(count: usize, cells: &Cells, microvolts: &Microvolts, values: &Values) -> bool
-    ensures { λ b. ⌜ b ≡ every (λ j. Bool·beq (isBlank (partIn (now (cells .entry)) (now (microvolts .entry)) (now (values .entry)) j)) (leb count j)) rowLimit ⌝ }
+// Rows past the count are blank, and no other row is; no row but a leaf is reversed. This asks for the kinds' numbers, which is quicker than for parts.
+fn rows_in_form(count: usize, cells: &Cells) -> bool
+    ensures { λ b. ⌜ ((microvolts : List ℤ) (values : List Float)
+        → b ≡ every (λ j. inForm count j (rowIn (rowsIn (now (cells .entry)) microvolts values) j)) rowLimit) ⌝ }
 {
     let mut ok = true;
     for j in 0..ROWS {
-        let part = part_in(cells[j], microvolts[j], values[j]);
-        ok = ok & (is_blank(part) == (count <= j));
+        let cell = cells[j];
+        ok = ok & ((is_blank(cell) == (count <= j)) & (is_leaf(cell) | !is_reversed(cell)));
     }
     ok
 }
@@ -94,7 +101,7 @@ pub(crate) fn form_rule(
     if !has_counts(h) {
         return Answer::Form;
     }
-    let rows = blank_rows(h.count as usize, cells, microvolts, values);
+    let rows = rows_in_form(h.count as usize, cells);
     let columns = blank_columns(h.width as usize, xs, ys);
     if rows & columns {
         Answer::Done

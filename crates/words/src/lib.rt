@@ -53,7 +53,7 @@ pub fn explain(a: Answer, out: &mut Line) -> usize
         the file is not 1536 bytes\n\
         a check is wrong; the place is the lowest block\n\
         the version is neither 1 nor 2\n\
-        a count, kind, blank row or column, or unused byte is against the rules\n\
+        a count, kind, mark, blank row or column, or unused byte is against the rules\n\
         the rate is outside its limits\n\
         a child is not lower than its adaptor, or a row is not used exactly once; the place is the row, or 255 for the input or the tap\n\
         an element value or steady microvolts are outside their limits; the place is the lowest row\n\

@@ -6,7 +6,9 @@ use Rattle.parts.proofs.part_sends.Statement.{statement}
 use Rattle.parts.proofs.part_sends.Tie as tie
 
 returns-2 : tie.Need-returns-2
-returns-2 c ρ = rw (c .before .before .part .given .1) (c .sent .ensures ρ ∙ rw (toZ-ofZ (c .before .before .before .before .fits .stored)))
+returns-2 c ρ =
+    rw (c .before .before .part .given .1)
+    (toZ-ofZ (record { sfits = c .sent .ok }) ∙ c .sent .ensures ρ ∙ rw (toZ-ofZ (c .before .before .before .before .fits .stored)))
 
 pub part-sends-spec : {M : Type 1} → statement M
 part-sends-spec =

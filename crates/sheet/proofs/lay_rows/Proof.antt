@@ -17,7 +17,7 @@ use Rattle.sheet.proofs.lay_rows.Tie as tie
 
 abbrev Inv-loop : tie.InvT-loop
 Inv-loop cells microvolts values rows row-cells₀ row-microvolts₀ row-values₀ j₀ row-cells row-microvolts row-values j =
-    Upto (λ n. table (λ k. cellOf (rowIn rows k .part)) n ++ drop n row-cells₀) rowLimit j row-cells
+    Upto (λ n. table (λ k. cellOf (rowIn rows k .part) 0) n ++ drop n row-cells₀) rowLimit j row-cells
     × Upto (λ n. table (λ k. microvoltsOf (rowIn rows k .part)) n ++ drop n row-microvolts₀) rowLimit j row-microvolts
     × Upto (λ n. table (λ k. valueOf (rowIn rows k .part)) n ++ drop n row-values₀) rowLimit j row-values
 

@@ -20,7 +20,7 @@ returns c =
     let pattern = first .before .before in
     let start = pattern .before .before in
     let a = start .args in
-    row-placed (a .b .now) (a .at) (omega (arith, start .pre)) (a .kind) (a .first) (a .second) (a .value) _ (a .microvolts)
+    row-placed (a .b .now) (a .at) (omega (arith, start .pre)) (a .kind) (a .first) (a .second) (a .mark) (a .value) _ (a .microvolts)
     (pattern .pattern .ensures ∙ ap (ofZ w32) (toZ-ofZ w32 (a .microvolts) (start .fits .microvolts))) _ _ _ _ _ _
     (first .put .ensures) (second .put2 .ensures) (third .put3 .ensures) (fourth .put4 .ensures) (fifth .put5 .ensures) (sixth .put6 .ensures)
 

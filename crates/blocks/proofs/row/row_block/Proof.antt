@@ -17,14 +17,13 @@ Inv-loop rows b₀ j₀ b j = Pieces rowBytes rowLength rows b j
 abbrev μ-loop : tie.MeasureT-loop
 μ-loop rows b₀ j₀ b j = rowLimit - j
 
-abbrev at-loop : tie.After-put-part Inv-loop μ-loop → tie.At-loop Inv-loop μ-loop
-at-loop c = c .before .before .before .before
-
 loop-again : tie.Need-loop-again Inv-loop μ-loop
 unfolding rowBytes
 loop-again c =
-    let put = c .before .put-part in
-    pieces-more (at-loop (c .before) .loop .inv) row-size _ (search needs) (put .ensures) (put .kept .0)
+    let put = c .before in
+    let marked = put .before in
+    let at = marked .before .before .before .before .loop in
+    pieces-more (at .inv) row-size _ (search needs) (rw (marked .mark-of .ensures) at (put .put-part .ensures)) (put .put-part .kept .0)
 
 returns : tie.Need-returns Inv-loop μ-loop
 returns c = let all : length (c .before .before .args .t1) ≡ rowLimit = search needs in pieces-all (c .before .loop .inv) (omega arith)
@@ -32,5 +31,5 @@ returns c = let all : length (c .before .before .args .t1) ≡ rowLimit = search
 pub row-block-spec : {M : Type 1} → statement M
 row-block-spec =
     tie.close
-    (tie.spec Inv-loop μ-loop (λ c. pieces-none) (λ c. omega arith) (λ c. omega arith) (λ c. search needs) (λ c. omega arith) (λ c κs. omega arith)
-    (λ c. omega arith) (λ c. omega arith) loop-again returns)
+    (tie.spec Inv-loop μ-loop (λ c. pieces-none) (λ c. omega arith) (λ c. omega arith) (λ c. search needs) (λ c. omega arith) (λ c κs. search needs)
+    (λ c κs. omega arith) (λ c. omega arith) (λ c. omega arith) loop-again returns)

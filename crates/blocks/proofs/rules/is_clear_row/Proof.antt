@@ -1,12 +1,19 @@
--- Each test is the one that the rule has, of the kind that was read.
+-- Each test is the one that the rule has, of the kind and the mark that were read.
 use borrow.Author.Needs.{needs}
 use Rattle.blocks.proofs.rules.is_clear_row.Statement.{statement}
 use Rattle.blocks.proofs.rules.is_clear_row.Tie as tie
 
 returns : tie.Need-returns
 returns c =
-    let gap = c .before .before in
-    rw (gap .before .is-clear .ensures, gap .is-clear2 .ensures, c .before .is-clear3 .ensures, c .is-clear4 .ensures, gap .before .before .byte .ensures)
+    let mark = c .before .before in
+    let children = mark .before in
+    rw (
+      children .is-clear .ensures,
+      mark .byte2 .ensures,
+      c .before .is-clear2 .ensures,
+      c .is-clear3 .ensures,
+      children .before .byte .ensures,
+    )
 
 pub is-clear-row-spec : {M : Type 1} → statement M
 is-clear-row-spec =

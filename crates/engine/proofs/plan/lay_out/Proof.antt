@@ -3,11 +3,12 @@ use Prim.Native.Nat.{_≤_}
 use native.Mathlib.Omega.{arith}
 use mathlib.Core.Path.{_≡_, refl, sym, ap, _∙_}
 use borrow.Author.Needs.{needs}
+use Rattle.whole.specs.Signed.{returned}
 use Rattle.circuit.specs.Record.{rowLimit, columnLimit}
 use Rattle.circuit.specs.declared.Record.{Record}
 use Rattle.sheet.specs.Sheet.{rowsIn, columnsIn, recordIn}
 use Rattle.engine.specs.Plan.{rank, Layable, Seated}
-use Rattle.engine.proofs.Laying.{seat, accepted, layable}
+use Rattle.engine.proofs.Laying.{seat, accepted, layable, tap-low}
 use Rattle.engine.proofs.plan.lay_out.Statement.{statement}
 use Rattle.engine.proofs.plan.lay_out.Tie as tie
 
@@ -75,9 +76,14 @@ lay-lines-requires c κs =
     let s = at-slots (w .before) in
     ((circuit (start s), refl, sym (w .wide2 .ensures), laid s .accepted .drawn, narrow w), start s .pre .2)
 
+-- the tap is the top or a row in use
+meter-of-requires : tie.Need-meter-of-requires
+meter-of-requires c κs = tap-low (laid (at-slots (c .before .before .before)) .accepted)
+
 returns : tie.Need-returns
 returns c =
-    let lines = c .before .before in
+    let meter = c .before .before in
+    let lines = meter .before in
     let w = lines .before .before in
     let t = w .before in
     let s = at-slots t in
@@ -92,10 +98,11 @@ returns c =
         adaptors = shape .1;
         reactive = shape .2 ∙ reactive (s .before) ∙ ap (rank (r .rows) 0) (sym same);
         tap = shape .3;
-        mirror = shape .4;
+        meter = shape .4 ∙ returned _ (meter .meter-of .ok) ∙ meter .meter-of .ensures _ _;
+        mirror = shape .5;
         staged = at-joints t .lay-joints .ensures r refl same h;
         turn = λ j l. t .turns-of .ensures r (seated s) j (omega arith);
-        drawn = rw (shape .5 ∙ sym (w .wide2 .ensures)) (lines .lay-lines .ensures r refl (sym (w .wide2 .ensures)) (h .accepted .drawn) (narrow w));
+        drawn = rw (shape .6 ∙ sym (w .wide2 .ensures)) (lines .lay-lines .ensures r refl (sym (w .wide2 .ensures)) (h .accepted .drawn) (narrow w));
       },
       h,
     )
@@ -104,4 +111,5 @@ pub lay-out-spec : {M : Type 1} → statement M
 lay-out-spec =
     tie.close
     (tie.spec (λ c κs. search needs) (λ c κs. short c) (λ c κs. short (c .before .before)) slots-of-requires lay-joints-requires
-    turns-of-requires (λ c κs. search needs) lay-lines-requires (λ c κs. (_, _, refl, laid (at-slots (c .before .before .before .before)))) returns)
+    turns-of-requires (λ c κs. search needs) lay-lines-requires meter-of-requires
+    (λ c κs. (_, _, refl, laid (at-slots (c .before .before .before .before .before)))) returns)

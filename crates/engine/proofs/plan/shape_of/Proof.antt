@@ -6,6 +6,7 @@ use mathlib.Core.Bool.{Bool, true, false, not, cond}
 use lib.Dec.{eqb}
 use lib.ListN.{getD}
 use borrow.Author.Needs.{needs}
+use mir.Facts.{toZ-ofZ}
 use Rattle.whole.specs.Signed.{returned}
 use Rattle.circuit.specs.Record.{top}
 use Rattle.circuit.specs.Sample.{roundedDown, roundedToZero, roundingOf}
@@ -54,6 +55,7 @@ returns c r prepared e h =
       omega (arith, count (at .before) r e, h .accepted .odd),
       refl,
       read-slot .wide2 .ensures ∙ ap (λ j. getD slots j 0) (read at r e) ∙ h .slot (tapRow r) (tap-inside r (h .accepted)),
+      toZ-ofZ (at .before .before .fits .meter),
       returned _ (c .before .mirror .ok) ∙ c .before .mirror .ensures ∙ ap (λ (h : Heading). mirrorOf (h .kind)) e,
       c .wide3 .ensures ∙ ap (λ (h : Heading). h .width) e,
     )

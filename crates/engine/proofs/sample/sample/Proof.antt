@@ -1,26 +1,23 @@
 -- `sample` meets its contract. Each way out is one of the definition's outcomes, for every circuit that the plan is laid out for; the calls ask what
 -- holds for the one that is known to be there.
 use Prim.Native.Nat.{_+_}
-use mathlib.Core.Path.{_≡_}
+use mathlib.Core.Path.{_≡_, _∙_}
 use mathlib.Core.Bool.{Bool, true, false, not}
 use mathlib.Core.List.{List}
 use borrow.Author.Needs.{needs}
 use borrow.Author.Tests.{not-true, not-false}
 use lib.IntN.{ℤ}
-use lib.ListN.{set}
 use mir.Syntax.{w32, w64}
 use mir.Val.{SFits, toZ, ofZ}
 use mir.Facts.{toZ-ofZ}
-use Rattle.whole.specs.Signed.{wide, widened, wide-same}
+use Rattle.whole.specs.Signed.{zfits, returned, widened, wide-same}
 use Rattle.circuit.specs.Counting.{within}
 use Rattle.circuit.specs.Record.{sourceLimit}
 use Rattle.circuit.specs.Curve.{waveLimit, reflected}
 use Rattle.circuit.specs.Sample.{storedAt}
 use Rattle.circuit.specs.declared.Record.{Record}
-use Rattle.engine.specs.Plan.{floor, Joints, jointsOf, planOf, Plan}
-use Rattle.engine.specs.declared.plan.Shape.{Shape}
-use Rattle.engine.specs.Sweep.{Climbs}
-use Rattle.engine.specs.Sample.{Fixed, Loaded, LaidOut, Works}
+use Rattle.engine.specs.Plan.{floor, jointsOf, planOf, Plan}
+use Rattle.engine.specs.Sample.{turnedBy, Fixed, Loaded, LaidOut, Works}
 use Rattle.engine.proofs.Limits.{within-abs}
 use Rattle.engine.proofs.Sampling.{Raised, Landed}
 use Rattle.engine.proofs.Sampling as Sampling
@@ -45,12 +42,29 @@ module _ (c : tie.Start) where
 heard : {b : Bool} {x : ℤ} → SFits w32 x → b ≡ within sourceLimit (toZ w32 (ofZ w32 x)) → not b ≡ false → within sourceLimit x ≡ true
 heard f e h = not-false _ (rw (e, toZ-ofZ f) at h)
 
-lifting : {shape : Shape} {js : Joints} {turns ups ds : List ℤ} {lines : List (List ℤ)} {x : ℤ} → LaidOut (planOf shape js turns lines) ups ds
-    → SFits w32 x → within sourceLimit x ≡ true → Climbs (shape .inward) js (shape .adaptors) (set ups floor (wide x))
-lifting {x = x} k f q = rw (wide-same f) (Sampling.climbs k x q)
+turned-requires : tie.Need-turned-requires
+turned-requires c κs =
+    let start = c .before .before .before in
+    let fixed = start .pre .fixed in
+    rw (toZ-ofZ (record { sfits = c .turned-arg .given }), wide-same (start .fits .x))
+    (Sampling.slot-turn fixed floor (fixed .slotted .source), (let x = start .fits .x in omega zfits))
+
+-- where the sample goes up
+module _ (c : tie.After-turned) where
+  abbrev at-else : tie.Else1
+  at-else = c .before .before
+
+  abbrev start : tie.Start
+  start = at-else .before .before
+
+  quiet : within sourceLimit (start .args .x) ≡ true
+  quiet = heard (start .fits .x) (at-else .before .in-source-limit .ensures) (at-else .if1 .left)
+
+  enters : toZ w64 (ofZ w64 (c .turned .result)) ≡ turnedBy (storedAt (start .args .turns .now) floor) (start .args .x)
+  enters = returned _ (c .turned .ok) ∙ rw (toZ-ofZ (record { sfits = c .before .turned-arg .given }), wide-same (start .fits .x)) at (c .turned .ensures)
 
 sweep-up-requires : tie.Need-sweep-up-requires
-sweep-up-requires c κs = search (needs, heard, lifting)
+sweep-up-requires c κs = let t = c .before in rw (enters t) (Sampling.climbs (start t .pre) (start t .args .x) (quiet t))
 
 returns : tie.Need-returns
 unfolding Works
@@ -60,19 +74,23 @@ returns c =
     record { works = λ r ws f l. (Sampling.refuses-loud r ws (start .args .x) loud, l); room = start .pre .room }
 
 module _ (c : tie.After-sweep-up) where
-  abbrev start : tie.Start
-  start = c .before .before .before .before
+  abbrev entered : tie.After-turned
+  entered = c .before .before
+
+  abbrev first : tie.Start
+  first = start entered
 
   abbrev above : List ℤ
   above = c .sweep-up .last .1 .1 .1 .1 .1 .1 .0
 
   abbrev wave : ℤ
-  wave = storedAt above (floor + start .args .shape .adaptors)
+  wave = storedAt above (floor + first .args .shape .adaptors)
 
-  raised : (k : Laid start) → Raised k (start .args .x) above
-  raised k =
-      let quiet = heard (start .fits .x) (c .before .before .before .in-source-limit .ensures) (c .before .before .if1 .left) in
-      record { source = quiet; up = rw (wide-same (start .fits .x)) at (c .sweep-up .ensures) (Sampling.climbs k (start .args .x) quiet) }
+  raised : (k : Laid first) → Raised k (first .args .x) above
+  raised k = record {
+    source = quiet entered;
+    up = rw (enters entered) at (c .sweep-up .ensures) (Sampling.climbs k (first .args .x) (quiet entered));
+  }
 
 wave-fits : (c : tie.After-high) → SFits w64 (wave (c .before))
 wave-fits c = record { sfits = c .high .given }
@@ -86,8 +104,8 @@ returns-2 c =
     let at = c .before .before .before in
     let over = not-true _ (rw (tested (c .before)) at (c .if2 .taken)) in
     record {
-      works = λ r ws f l. let k = any (start at) f l in (Sampling.refuses-top k _ (raised at k) over, Sampling.still k _ (raised at k));
-      room = start at .pre .room;
+      works = λ r ws f l. let k = any (first at) f l in (Sampling.refuses-top k _ (raised at k) over, Sampling.still k _ (raised at k));
+      room = first at .pre .room;
     }
 
 -- ---- the diode
@@ -99,12 +117,12 @@ module _ (c : tie.After-struct-told) where
   calm : within waveLimit (wave at-up) ≡ true
   calm = not-false _ (rw (tested (c .before .before)) at (c .before .if2 .left))
 
-  mirror-fits : SFits w64 (start at-up .args .shape .mirror)
-  mirror-fits = record { sfits = c .struct-told .given .1 .1 .1 .1 .0 .1 }
+  mirror-fits : SFits w64 (first at-up .args .shape .mirror)
+  mirror-fits = record { sfits = c .struct-told .given .1 .1 .1 .1 .1 .0 .1 }
 
 reflect-requires : tie.Need-reflect-requires
 reflect-requires c κs =
-    let k = start (at-up c) .pre in
+    let k = first (at-up c) .pre in
     rw (toZ-ofZ (mirror-fits c), toZ-ofZ (wave-fits (c .before .before .before)))
     ((k .circuit, k .fixed .drawn, k .fixed .mirror), within-abs waveLimit (wave (at-up c)) (calm c))
 
@@ -112,7 +130,7 @@ module _ (c : tie.After-reflect) where
   abbrev risen : tie.After-sweep-up
   risen = at-up (c .before)
 
-  answered : (k : Laid (start risen)) → c .reflect .result .0 ≡ reflected (k .circuit) (wave risen)
+  answered : (k : Laid (first risen)) → c .reflect .result .0 ≡ reflected (k .circuit) (wave risen)
   answered k =
       rw (toZ-ofZ (mirror-fits (c .before)), toZ-ofZ (wave-fits (c .before .before .before .before))) at (c .reflect .ensures)
       (k .circuit) (k .fixed .drawn) (k .fixed .mirror)
@@ -125,7 +143,7 @@ answer-fits c = record { sfits = c .struct-told2 .given .0 .1 }
 sweep-down-requires : tie.Need-sweep-down-requires
 sweep-down-requires c κs =
     let at = c .before .before .before in
-    let k = start (risen at) .pre in
+    let k = first (risen at) .pre in
     rw (toZ-ofZ (answer-fits (c .before .before))) (Sampling.drops k _ (raised (risen at) k) (calm (at .before)) (answered at k))
 
 module _ (c : tie.After-sweep-down) where
@@ -133,7 +151,7 @@ module _ (c : tie.After-sweep-down) where
   at-diode = c .before .before .before .before
 
   abbrev begun : tie.Start
-  begun = start (risen at-diode)
+  begun = first (risen at-diode)
 
   landed : (k : Laid begun)
       → Landed (plan begun) (k .circuit) (k .stored) (begun .args .x) (above (risen at-diode)) (c .sweep-down .last .1 .1 .1 .1 .1 .1 .1 .0)
@@ -161,7 +179,9 @@ sample-spec =
     (tie.spec
     (λ c κs. search needs)
     returns
-    (λ c. widened (c .before .before .fits .x))
+    (λ c. search needs)
+    (λ c. widened (c .before .before .before .fits .x))
+    turned-requires
     (λ c. search needs)
     sweep-up-requires
     (λ c. search needs)

@@ -3,9 +3,12 @@ use mathlib.Core.Path.{_≡_, refl, sym, ap₂, _∙_}
 use mathlib.Core.Bool.{false}
 use borrow.Author.Needs.{needs}
 use lib.IntN.{ℤ, _+ℤ_}
+use mir.Syntax.{w64}
+use mir.Val.{SFits}
+use mir.Facts.{toZ-ofZ}
 use Rattle.whole.specs.Order.{Abs}
 use Rattle.circuit.specs.Curve.{waveLimit}
-use Rattle.engine.specs.Sample.{leafOver, Port, Settled}
+use Rattle.engine.specs.Sample.{leafOver, turnedBy, Port, Settled}
 use Rattle.engine.proofs.sample.settle.Statement.{statement}
 use Rattle.engine.proofs.sample.settle.Tie as tie
 
@@ -31,21 +34,33 @@ module _ (c : tie.After-wave-at2) where
   abbrev at-else : tie.Else1
   at-else = at-sent .before .before
 
+meter-fits : (c : tie.After-struct-told) → SFits w64 (start (at-else (c .before)) .args .shape .meter)
+meter-fits c = record { sfits = c .struct-told .given .1 .1 .1 .1 .0 .1 }
+
 limited : {y z : ℤ} → y ≡ z → Abs z waveLimit → Abs y waveLimit
 limited e h = rw e h
 
 tapped-requires : tie.Need-tapped-requires
-tapped-requires c κs = let p = port (at-else c) in (limited (at-sent c .wave-at .ensures) (p .sent), limited (c .wave-at2 .ensures) (p .arriving))
+tapped-requires c κs =
+    let read = c .before in
+    let p = port (at-else read) in
+    rw (toZ-ofZ (meter-fits c))
+    (start (at-else read) .pre .meter, limited (at-sent read .wave-at .ensures) (p .sent), limited (read .wave-at2 .ensures) (p .arriving))
 
 store-requires : tie.Need-store-requires
-store-requires c κs = let at = at-else (c .before .before) in start at .pre .restores (calm at)
+store-requires c κs = let at = at-else (c .before .before .before) in start at .pre .restores (calm at)
 
 returns-2 : tie.Need-returns-2
 unfolding Settled
 returns-2 c =
     let at-tapped = c .before .before in
-    let read = at-tapped .before in
-    (calm (at-else read), at-tapped .tapped .ensures ∙ ap₂ _+ℤ_ (at-sent read .wave-at .ensures) (read .wave-at2 .ensures), c .store .ensures)
+    let read = at-tapped .before .before in
+    let meter = start (at-else read) .args .shape .meter in (
+      calm (at-else read),
+      rw (toZ-ofZ (meter-fits (at-tapped .before))) at (at-tapped .tapped .ensures)
+          ∙ ap₂ (λ y z. turnedBy meter (y +ℤ z)) (at-sent read .wave-at .ensures) (read .wave-at2 .ensures),
+      c .store .ensures,
+    )
 
 pub settle-spec : {M : Type 1} → statement M
 settle-spec =

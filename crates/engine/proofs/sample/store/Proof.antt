@@ -7,6 +7,7 @@ use lib.IntN.{ℤ, pos}
 use lib.ListN.{length, set, length-set}
 use lib.Seq.{getD-set-other}
 use mir.Facts.{toZ-ofZ}
+use Rattle.whole.specs.Order.{abs-as}
 use Rattle.circuit.specs.Sample.{storedAt}
 use Rattle.engine.specs.Sample.{turnedBy, Restored}
 use Rattle.engine.proofs.Fill.{filled-more}
@@ -27,7 +28,7 @@ turned-requires c κs =
     let start = c .before .before .before .before in
     let inside = c .before .before .loop-test .taken in
     rw (toZ-ofZ (record { sfits = c .before .turned-arg .given }), toZ-ofZ (record { sfits = c .turned-arg2 .given }))
-    (start .pre .turn _ inside, start .pre .wave _ inside)
+    (start .pre .turn _ inside, abs-as (start .pre .wave _ inside) refl (omega arith))
 
 restored-more : {turns ds ups after : List ℤ} {s : ℕ} {v : ℤ} → Restored turns ds s ups after → s < length after
     → v ≡ turnedBy (storedAt turns s) (storedAt ds s) → Restored turns ds (s + 1) ups (set after s v)

@@ -1,14 +1,42 @@
--- `tapped` meets its contract: the sum of two waves in their limit fits 32 bits.
+-- `tapped` meets its contract: the sum of two waves in their limit fits 32 bits, and so does its opposite.
+use native.Mathlib.Omega.{arith}
+use mathlib.Core.Path.{_≡_, refl, _∙_}
+use lib.IntN.{_+ℤ_}
+use mir.Syntax.{w32}
+use mir.Val.{SFits}
 use mir.Facts.{toZ-ofZ}
-use Rattle.engine.proofs.Limits.{sum-fits, sum-short, sum-reads}
+use Rattle.whole.specs.Order.{abs-as}
+use Rattle.whole.specs.Signed.{zfits, returned}
+use Rattle.engine.specs.Sample.{turnedBy}
+use Rattle.engine.proofs.Facing.{turned-keeps}
+use Rattle.engine.proofs.Limits.{sum-range, sum-fits, sum-reads}
 use Rattle.engine.proofs.sample.tapped.Statement.{statement}
 use Rattle.engine.proofs.sample.tapped.Tie as tie
 
-cast-t4 : tie.Need-cast-t4
-cast-t4 c = let p = c .before .before .before .before .pre in rw (sum-reads (p .0) (p .1)) (sum-short (p .0) (p .1))
+-- where both waves are read
+abbrev start : tie.After-struct-told2 → tie.Start
+start c = c .before .before .before .before
+
+turned-requires : tie.Need-turned-requires
+turned-requires c κs =
+    let s = start c in
+    let p = s .pre in
+    rw (toZ-ofZ (s .fits .meter), sum-reads (p .1) (p .2)) (p .0, abs-as (sum-range (p .1) (p .2)) refl (omega arith))
+
+module _ (c : tie.After-turned) where
+  abbrev begun : tie.Start
+  begun = start (c .before)
+
+  value : c .turned .result ≡ turnedBy (begun .args .meter) (begun .args .up .0 +ℤ begun .args .down .0)
+  value = rw (toZ-ofZ (begun .fits .meter), sum-reads (begun .pre .1) (begun .pre .2)) at (c .turned .ensures)
+
+  short : SFits w32 (c .turned .result)
+  short = let range = turned-keeps (begun .args .meter) (sum-range (begun .pre .1) (begun .pre .2)) in rw value (omega zfits)
 
 returns : tie.Need-returns
-returns c = let p = c .before .before .before .before .pre in rw (sum-reads (p .0) (p .1)) (toZ-ofZ (sum-short (p .0) (p .1)))
+returns c = rw (returned _ (c .turned .ok)) (toZ-ofZ (short c) ∙ value c)
 
 pub tapped-spec : {M : Type 1} → statement M
-tapped-spec = tie.close (tie.spec (λ c. let p = c .before .before .before .before .pre in sum-fits (p .0) (p .1)) cast-t4 returns)
+tapped-spec =
+    tie.close
+    (tie.spec (λ c. let p = start c .pre in sum-fits (p .1) (p .2)) turned-requires (λ c. rw (returned _ (c .turned .ok)) (short c)) returns)

@@ -11,8 +11,7 @@ use mir.Val.{SFits, ofZ, toZ}
 use mir.Facts.{toZ-ofZ, toZ-pos, toZ-neg}
 use Rattle.whole.specs.Integers.{at, is-neg, _⊟_}
 use Rattle.whole.specs.Order.{zarith, Abs, abs-neg}
-use Rattle.circuit.specs.Curve.{waveLimit}
-use Rattle.engine.specs.Sample.{Turn, turnedBy}
+use Rattle.engine.specs.Sample.{Turn, turnedBy, turnLimit}
 use Rattle.engine.proofs.Limits.{abs-fits}
 use Rattle.engine.proofs.sample.turned.Statement.{statement}
 use Rattle.engine.proofs.sample.turned.Tie as tie
@@ -27,7 +26,7 @@ opposite (pos n) f =
 opposite (negsuc n) f =
     rw (all-turned (2 ^ 64 - suc n) n (omega (arith, f .sfits)), toZ-pos w64 (f .sfits)) (omega (zarith, at (pos n) ⊟ at (negsuc 0)))
 
-turns : {t a : ℤ} → Turn t → Abs a waveLimit
+turns : {t a : ℤ} → Turn t → Abs a turnLimit
     → (toZ w64 (bitXor (ofZ w64 a) (ofZ w64 t)) -ℤ toZ w64 (ofZ w64 t) ≡ turnedBy t a) × SFits w64 (turnedBy t a)
 turns {a = a} (inl e) h = let f = abs-fits h (omega arith) in rw (e, xor-zero-r, toZ-ofZ f) (+ℤ-idr a, f)
 turns {a = a} (inr e) h = rw e (opposite a (abs-fits h (omega arith)), abs-fits (abs-neg h) (omega arith))

@@ -33,7 +33,8 @@ returns-2 c =
     let rows = c .before .before .before in
     let counted = rows .before .before in
     let counts = counted .before .has-counts in
-    rw (← counts .ensures, not-false (counts .result) (counted .if1 .left), ← rows .blank-rows .ensures, ← c .before .blank-columns .ensures)
+    let a = counted .before .before .args in
+    rw (← counts .ensures, not-false (counts .result) (counted .if1 .left), ← rows .rows-in-form .ensures (a .microvolts .now) (a .values .now), ← c .before .blank-columns .ensures)
     (ap (λ (b : Bool). numbered 4 (unless b 0)) (sym (c .if2 .taken)))
 
 returns-3 : tie.Need-returns-3
@@ -42,7 +43,8 @@ returns-3 c =
     let rows = c .before .before .before in
     let counted = rows .before .before in
     let counts = counted .before .has-counts in
-    rw (← counts .ensures, not-false (counts .result) (counted .if1 .left), ← rows .blank-rows .ensures, ← c .before .blank-columns .ensures)
+    let a = counted .before .before .args in
+    rw (← counts .ensures, not-false (counts .result) (counted .if1 .left), ← rows .rows-in-form .ensures (a .microvolts .now) (a .values .now), ← c .before .blank-columns .ensures)
     (ap (λ (b : Bool). numbered 4 (unless b 0)) (sym (c .if2 .left)))
 
 pub form-rule-spec : {M : Type 1} → statement M

@@ -5,10 +5,9 @@ use mathlib.Core.Path.{refl, ap, _∙_}
 use borrow.Author.Needs.{needs}
 use Rattle.circuit.specs.Counting.{total, one}
 use Rattle.circuit.specs.Record.{rowLimit, isInput}
-use Rattle.laws.proofs.Counting.{total-next}
+use Rattle.laws.proofs.Counting.{one-small, total-next}
 use Rattle.laws.proofs.Looping.{Upto, onward, whole}
 use Rattle.sheet.specs.Sheet.{partIn}
-use Rattle.wiring.proofs.Counts.{one-small}
 use Rattle.sheet.proofs.Back.{part-read}
 use Rattle.wiring.proofs.tree.inputs.Statement.{statement}
 use Rattle.wiring.proofs.tree.inputs.Tie as tie
