@@ -18,6 +18,9 @@ use Rattle.engine.specs.Sample.{Turn, turnedBy}
 
 -- ---- by a number
 
+pub turn-as : {s t : ℤ} → s ≡ t → Turn t → Turn s
+turn-as e h = rw e h
+
 pub facing-turn : (b : Bool) → Turn (facingOf b)
 facing-turn true = inr refl
 facing-turn false = inl refl

@@ -1,7 +1,7 @@
 -- `load` meets its contract. The loop's invariant: what the rows below i send stands in their slots.
 use Prim.Native.Nat.{_-_, _<_, _≤_}
 use native.Mathlib.Omega.{arith}
-use mathlib.Core.Path.{_≡_, refl, sym, ap, _∙_}
+use mathlib.Core.Path.{_≡_, refl, sym, ap, ap₂, _∙_}
 use lib.IntN.{pos}
 use lib.ListN.{length-map}
 use mir.Syntax.{w32}
@@ -12,7 +12,9 @@ use Rattle.parts.specs.Parts.{facingOf}
 use Rattle.circuit.specs.Sample.{Rounding, wholeWaves, roundingOf, partSends, storedAt}
 use Rattle.circuit.specs.Record.{rowLimit, rowIn}
 use Rattle.sheet.specs.Sheet.{rowsIn}
-use Rattle.engine.proofs.Facing.{facing-turn}
+use Rattle.whole.specs.Order.{Abs, abs-as}
+use Rattle.engine.specs.Sample.{turnedBy, turnLimit}
+use Rattle.engine.proofs.Facing.{turn-as, facing-turn}
 use Rattle.engine.proofs.Loading.{upOf, up-turned, loaded}
 use Rattle.engine.proofs.Placing.{Placed, Own, laid-own, placed-start, placed-more}
 use Rattle.engine.proofs.play.load.Statement.{statement}
@@ -59,7 +61,7 @@ loop-again c =
     let row = rowIn (rowsIn (a .cells .now) (a .microvolts .now) (a .values .now)) i in
     let stored : SFits w32 (storedAt (a .t6 .waves) i) = record { sfits = call .before .part-sends-arg .given } in
     let own : SFits w32 (call .part-sends .result) = record { sfits = call .part-sends .ok } in
-    let turned = rw (returned _ (facing .facing .ok), wide-same own) at (up c .turned .ensures) in (
+    let turned = up c .turned .ensures ∙ ap₂ turnedBy (returned (facing .facing .result) (facing .facing .ok)) (wide-same own) in (
       inv .0,
       omega arith,
       λ ρ.
@@ -71,8 +73,10 @@ loop-again c =
 
 turned-requires : tie.Need-turned-requires Inv-loop μ-loop
 turned-requires c κs =
-    let own : SFits w32 (c .before .before .part-sends .result) = record { sfits = c .before .before .part-sends .ok } in
-    rw (returned _ (c .facing .ok), wide-same own, c .facing .ensures) (facing-turn (c .before .reversed-at .result), omega zfits)
+    let own : SFits w32 (c .before .before .part-sends .result) = record { sfits = c .before .before .part-sends .ok } in (
+      turn-as (returned _ (c .facing .ok) ∙ c .facing .ensures) (facing-turn (c .before .reversed-at .result)),
+      (let range : Abs (c .before .before .part-sends .result) turnLimit = omega zfits in abs-as range (sym (wide-same own)) (omega arith)),
+    )
 
 -- a state that code holds has a wave for each row
 returns : tie.Need-returns Inv-loop μ-loop

@@ -18,7 +18,7 @@ use Rattle.circuit.specs.declared.Row.{Row}
 use Rattle.sheet.specs.Sheet.{rowsIn}
 use Rattle.parts.specs.Parts.{facingOf, partTaken}
 use Rattle.engine.specs.Sample.{turnedBy}
-use Rattle.engine.proofs.Facing.{facing-turn, turned-size}
+use Rattle.engine.proofs.Facing.{turn-as, facing-turn, turned-size}
 use Rattle.engine.proofs.Fill.{filled-more}
 use Rattle.engine.proofs.Limits.{limit-reads}
 use Rattle.engine.proofs.Loading.{zeros-at, outOf, taken, all-taken}
@@ -94,8 +94,9 @@ module _ (c : tie.After-turned Inv-loop μ-loop) where
   stored : c .turned .result ≡ outOf (rows at-taken) (start at-taken .args .slots .now) (start at-taken .args .t6) (turn at-taken .loop .i)
   stored =
       let a = start at-taken .args in
-      rw (returned _ (faces .facing .ok), limit-reads (limited at-taken)) at (c .turned .ensures)
-      ∙ ap₂ turnedBy (faces .facing .ensures ∙ ap facingOf (faces .before .reversed-at .ensures (a .microvolts .now) (a .values .now))) (out at-taken)
+      let reversed = faces .before .reversed-at .ensures (a .microvolts .now) (a .values .now) in
+      c .turned .ensures
+      ∙ ap₂ turnedBy (returned _ (faces .facing .ok) ∙ faces .facing .ensures ∙ ap facingOf reversed) (limit-reads (limited at-taken) ∙ out at-taken)
 
   short : SFits w32 (c .turned .result)
   short =
@@ -106,9 +107,10 @@ module _ (c : tie.After-turned Inv-loop μ-loop) where
 turned-requires : tie.Need-turned-requires Inv-loop μ-loop
 turned-requires c κs =
     let facing = c .before in
-    let at = facing .before .before in
-    rw (returned _ (facing .facing .ok), facing .facing .ensures, limit-reads (limited at))
-    (facing-turn (facing .before .reversed-at .result), abs-as (limited at) refl (omega arith))
+    let at = facing .before .before in (
+      turn-as (returned _ (facing .facing .ok) ∙ facing .facing .ensures) (facing-turn (facing .before .reversed-at .result)),
+      abs-as (limited at) (sym (limit-reads (limited at))) (omega arith),
+    )
 
 loop-again : tie.Need-loop-again Inv-loop μ-loop
 loop-again c =

@@ -1,6 +1,6 @@
 -- `tapped` meets its contract: the sum of two waves in their limit fits 32 bits, and so does its opposite.
 use native.Mathlib.Omega.{arith}
-use mathlib.Core.Path.{_≡_, refl, _∙_}
+use mathlib.Core.Path.{_≡_, sym, ap₂, _∙_}
 use lib.IntN.{_+ℤ_}
 use mir.Syntax.{w32}
 use mir.Val.{SFits}
@@ -8,7 +8,7 @@ use mir.Facts.{toZ-ofZ}
 use Rattle.whole.specs.Order.{abs-as}
 use Rattle.whole.specs.Signed.{zfits, returned}
 use Rattle.engine.specs.Sample.{turnedBy}
-use Rattle.engine.proofs.Facing.{turned-keeps}
+use Rattle.engine.proofs.Facing.{turn-as, turned-keeps}
 use Rattle.engine.proofs.Limits.{sum-range, sum-fits, sum-reads}
 use Rattle.engine.proofs.sample.tapped.Statement.{statement}
 use Rattle.engine.proofs.sample.tapped.Tie as tie
@@ -21,14 +21,14 @@ turned-requires : tie.Need-turned-requires
 turned-requires c κs =
     let s = start c in
     let p = s .pre in
-    rw (toZ-ofZ (s .fits .meter), sum-reads (p .1) (p .2)) (p .0, abs-as (sum-range (p .1) (p .2)) refl (omega arith))
+    (turn-as (toZ-ofZ (s .fits .meter)) (p .0), abs-as (sum-range (p .1) (p .2)) (sym (sum-reads (p .1) (p .2))) (omega arith))
 
 module _ (c : tie.After-turned) where
   abbrev begun : tie.Start
   begun = start (c .before)
 
   value : c .turned .result ≡ turnedBy (begun .args .meter) (begun .args .up .0 +ℤ begun .args .down .0)
-  value = rw (toZ-ofZ (begun .fits .meter), sum-reads (begun .pre .1) (begun .pre .2)) at (c .turned .ensures)
+  value = c .turned .ensures ∙ ap₂ turnedBy (toZ-ofZ (begun .fits .meter)) (sum-reads (begun .pre .1) (begun .pre .2))
 
   short : SFits w32 (c .turned .result)
   short = let range = turned-keeps (begun .args .meter) (sum-range (begun .pre .1) (begun .pre .2)) in rw value (omega zfits)
