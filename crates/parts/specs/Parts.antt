@@ -26,8 +26,8 @@ abbrev pub facingOf : Bool → ℤ
 facingOf true = negsuc 0
 facingOf false = pos 0
 
--- What a row's wave is turned by on its way into the tree. The input sends its sample, reversed or not. A reactive leaf sends what came down to its
--- row, and an inductor the opposite of that: where it is reversed it has changed sign on its way to the leaf too.
+-- What a row's wave is turned by on its way into the tree: the input's sample by its mark. A capacitor sends what came down to its row and an
+-- inductor the opposite of that, whatever the mark: a reversed leaf's wave changes sign coming down and again going up.
 abbrev pub turnOf : Part → Bool → ℤ
 turnOf Blank reversed = pos 0
 turnOf (Leaf (Resistor r)) reversed = pos 0
