@@ -30,6 +30,7 @@ enum {
     SOURCE_LIMIT = 1 << 24,     /* microvolts of a steady source */
     WAVE_LIMIT = 1 << 26,       /* microvolts of a column's x, a stored wave, a wave at the diode or at a leaf */
     TOP = 255,
+    NO_SEGMENT = 255,
     PIECE = 10000
 };
 
@@ -323,32 +324,36 @@ static void store_waves(void)
 #define TWO_AT_A_TIME
 #endif
 
+/* Of the last sample that a call finished. The program has no light to show it with, so that it stands where another file might read it. */
+u8 segment;
+
 /* Halves the lines that remain, 0 to `high` at first. Asked once for both arms whether only one does, clang may choose the half without a jump,
  * and each step then waits for the one before it. */
-INLINE const struct line *line_at(i64 x, unsigned long high)
+INLINE unsigned long line_at(i64 x, unsigned long high)
 {
     unsigned long low = 0;
     for (;;) {
         unsigned long middle = (low + high) / 2;
         if (line[middle + 1].edge <= x) {
-            if (middle + 1 == high) return &line[high];
+            if (middle + 1 == high) return high;
             low = middle + 1;
         } else {
-            if (middle == low) return &line[low];
+            if (middle == low) return low;
             high = middle;
         }
     }
 }
 
-INLINE i64 drawn(i64 x, unsigned long width)
+INLINE i64 drawn(i64 x, unsigned long width, u8 *used)
 {
-    const struct line *l = line_at(x, width);
-    return (l->rise * x + l->base) / l->run;
+    unsigned long n = line_at(x, width);
+    *used = n;
+    return (line[n].rise * x + line[n].base) / line[n].run;
 }
 
-INLINE i64 reflect(i64 x, int pair, unsigned long width)
+INLINE i64 reflect(i64 x, int pair, unsigned long width, u8 *used)
 {
-    return pair && x < 0 ? -drawn(-x, width) : drawn(x, width);
+    return pair && x < 0 ? -drawn(-x, width, used) : drawn(x, width, used);
 }
 
 static int leaf_over(void)
@@ -369,6 +374,7 @@ INLINE long work(const u8 *in, i32 *out, long n, int pair, int inward)
     const long joints = adaptors, kept = reactive & ~1L, ends = leaves & ~1L;     /* even, for the compiler to see */
     const i64 in_turn = sample_turn, out_turn = meter;
     i64 *const sent = &up[ends], *const arriving = &down[ends];
+    u8 used;
     for (const u8 *const end = in + 3 * n; in != end; in += 3) {
         i32 sample;
         memcpy(&sample, in - 1, 4);
@@ -382,7 +388,7 @@ INLINE long work(const u8 *in, i32 *out, long n, int pair, int inward)
 
         i64 risen = up[top];
         if (risen > WAVE_LIMIT || risen < -WAVE_LIMIT) return out - start;
-        down[top] = reflect(risen, pair, width);
+        down[top] = reflect(risen, pair, width, &used);
 
         for (long k = joints - 1; k >= 0; k--) {
             const struct adaptor *a = &adaptor[k];
@@ -405,6 +411,7 @@ INLINE long work(const u8 *in, i32 *out, long n, int pair, int inward)
         if (past & -(2LL * WAVE_LIMIT) && leaf_over()) return out - start;
 
         *out++ = (i32)turned(out_turn, up[tap] + down[tap]);
+        segment = used;
         TWO_AT_A_TIME
         for (long i = 0; i < kept; i++) up[i] = turned(turn[i], down[i]);
     }
@@ -422,6 +429,7 @@ static __attribute__((noinline)) int feed(const u8 *in, i32 *out, long n, long *
 {
     int number = set_up();
     *done = 0;
+    segment = NO_SEGMENT;
     if (number) return number;
     lay_out();
     *done = file.curve == PAIR ? work_by(in, out, n, 1) : work_by(in, out, n, 0);

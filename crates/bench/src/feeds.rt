@@ -15,6 +15,7 @@ use crate::work::stored;
 use circuit::Answer;
 use circuit::Carried;
 use circuit::Feed;
+use circuit::NO_SEGMENT;
 use circuit::Record;
 use circuit::SOURCE_LIMIT;
 use circuit::TAKE_LIMIT;
@@ -52,6 +53,7 @@ fn in_pieces(r: Record, bytes: Samples, piece: usize) -> Fed
     let mut feed = Feed {
         answer: Answer::Done,
         done: 0,
+        segment: NO_SEGMENT,
         carried: takes::start(),
     };
     let mut at: usize = 0;

@@ -215,6 +215,28 @@ case 1 with a knee of 0
 case 1 with a knee of 0: the buffer is as it was
 case 1 with a knee of 600000 and a thermal voltage of 25856
 the same, read again
+a sample of 1333, 999 microvolts at the diode
+a sample of 1334, 1000 microvolts at the diode
+a sample of 2666, 1999 microvolts at the diode
+a sample of 2667, 2000 microvolts at the diode
+a sample of -1332, -999 microvolts at the diode
+a sample of -1333, -1000 microvolts at the diode
+a single from -4 on, at -5
+a single from -4 on, at -4
+a single from -4 on, at -1
+a single from -4 on, at 0
+a sample of 4000 and then one of 100
+a sample of 100 and then one of 4000
+a sample of 4000 and then one past its limit
+a sample past its limit and then one of 4000
+no sample
+no sample, and room for one output
+a sample of 4000, and a wave stored at a resistor
+a sample of 4000 at rate 7999
+a wave past its limit at the large inductor
+a take's call with a sample of 4000
+a take's call with two bytes
+a take's call with a sample and no room
 ",
         t.cases,
     );

@@ -4,6 +4,7 @@ mod feeds;
 mod files;
 mod knees;
 mod labels;
+mod lights;
 mod make;
 mod runs;
 mod samples;
@@ -22,5 +23,6 @@ fn main() {
     t = files::cases(t);
     t = feeds::cases(t);
     t = knees::cases(t);
+    t = lights::cases(t);
     tally::shown(t);
 }

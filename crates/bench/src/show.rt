@@ -1,5 +1,6 @@
 // What the bench writes: words, numbers with their unit, and an answer as a reader says it.
 use circuit::Answer;
+use circuit::NO_SEGMENT;
 use circuit::State;
 use libc::STDOUT_FILENO;
 
@@ -59,6 +60,15 @@ pub fn stored(state: State) {
 pub fn samples_done(n: u64) {
     text(b", samples done ");
     number(n);
+}
+
+pub fn segment(n: u8) {
+    if n == NO_SEGMENT {
+        text(b", no segment");
+    } else {
+        text(b", segment ");
+        number(n as u64);
+    }
 }
 
 // An output: twice a voltage is the sum of two waves, so its unit is half a wave's.

@@ -2,6 +2,7 @@
 // and what it hands back where it is turned away.
 use circuit::Answer;
 use circuit::COLUMNS;
+use circuit::NO_SEGMENT;
 use circuit::Part;
 use circuit::Ports;
 use circuit::Progress;
@@ -21,7 +22,7 @@ ghost use mathlib.Core.Bool.{not};
 ghost use Rattle.circuit.specs.Numbers.{handed, judge, lowest};
 ghost use Rattle.circuit.specs.Record.{rowLimit};
 ghost use Rattle.circuit.specs.Sample.{storedAt};
-ghost use Rattle.circuit.specs.Run.{soundWave, chargedRules};
+ghost use Rattle.circuit.specs.Run.{soundWave, chargedRules, noSegment};
 ghost use Rattle.circuit.specs.Promises.{Charges};
 ghost use Rattle.laws.specs.Numbered.{numbered};
 ghost use Rattle.sheet.specs.Sheet.{rowsIn, columnsIn, partIn, recordIn};
@@ -110,11 +111,12 @@ pub fn answer(r: Record, state: State) -> Answer
 
 // What a call hands back that is refused before its first sample.
 pub fn turned_away(answer: Answer, state: State) -> Progress
-    ensures { λ p. ⌜ p ≡ record { answer = answer; done = 0; state = state } ⌝ }
+    ensures { λ p. ⌜ p ≡ record { answer = answer; done = 0; segment = noSegment; state = state } ⌝ }
 {
     Progress {
         answer,
         done: 0,
+        segment: NO_SEGMENT,
         state,
     }
 }

@@ -5,15 +5,15 @@ use mathlib.Core.Path.{_≡_, refl, ap₂}
 use mathlib.Core.Bool.{Bool, true, false}
 use mathlib.Core.List.{List, [], _∷_, _++_, map}
 use lib.Dec.{eqb}
-use lib.ListN.{length, getD}
+use lib.ListN.{length, set, getD}
 use lib.IntN.{ℤ, pos, negsuc, _-ℤ_, _*ℤ_, natAbs}
 use lib.Ieee.{Float, fin}
 use Rattle.whole.specs.Fraction.{Fraction, whole}
 use Rattle.circuit.specs.Numbers.{Report, report, done}
 use Rattle.circuit.specs.SetUp.{nothing, setUpReport, setUpRows}
-use Rattle.circuit.specs.Curve.{line, reflected}
+use Rattle.circuit.specs.Curve.{line, reflected, segment}
 use Rattle.circuit.specs.Sample.{unrounded, output}
-use Rattle.circuit.specs.Run.{Ran}
+use Rattle.circuit.specs.Run.{Ran, call, freshWaves, ran}
 use Rattle.circuit.specs.File.{blockLength, bytes, checkOf, zeros}
 use Rattle.circuit.specs.Knee.{knob, withKnee}
 use Rattle.circuit.specs.declared.Join.{Join}
@@ -24,11 +24,12 @@ use Rattle.circuit.proofs.Working.{working}
 use Rattle.circuit.proofs.Circuits.{minus, ohms, column, alone, case1, case6, case8, capacitive, curved, sourced, versioned, reversing, fresh}
 
 -- what a case finds: the top's ratio and port resistance; a run's report, how many samples it has done, its outputs in half microvolts and
--- what row 1 stores; the diode's answers; whether something is so; a report; a check
+-- what row 1 stores; the diode's answers; segments; whether something is so; a report; a check
 data Found : Type 0 where
   top : ℕ → Float → Found
   plays : Report → ℕ → List ℤ → ℤ → Found
   answers : List ℤ → Found
+  lights : List ℕ → Found
   is : Bool → Found
   hands : Report → Found
   checks : ℕ → Found
@@ -46,6 +47,13 @@ plainly outputs stored = plays done (length outputs) outputs stored
 
 answered : Record → List ℤ → Found
 answered r waves = answers (map (reflected r) waves)
+
+-- the segments of waves, and of runs
+lit : Record → List ℤ → Found
+lit r waves = lights (map (segment r) waves)
+
+shown : List Ran → Found
+shown runs = lights (map (λ (p : Ran). p .segment) runs)
 
 -- the unrounded output for a sample from a fresh state is n / d
 unroundedIs : Record → ℤ → ℤ → ℕ → Found
@@ -164,6 +172,29 @@ reversals =
 reversals-told : map (λ (l : Line). l .found) reversals ≡ map (λ (l : Line). l .paper) reversals
 unfolding working reversals played plainly fresh
 reversals-told = ap₂ _∷_ refl refl
+
+-- ---- request 7: the segments of waves, and the segment of a run's last finished sample
+
+-- curve K has its columns at 0, 1000 and 2000, and case 1 sends three quarters of a sample to the diode
+segments : List Line
+segments =
+    -- a column is passed at its own x; a pair's wave by its magnitude
+    case 0 (lit case1 (pos 0 ∷ pos 999 ∷ pos 1000 ∷ pos 1999 ∷ pos 2000 ∷ pos 67108864 ∷ [])) (lights (1 ∷ 1 ∷ 2 ∷ 2 ∷ 3 ∷ 3 ∷ []))
+    ∷ case 0 (lit case1 (minus 1 ∷ minus 999 ∷ minus 1000 ∷ minus 1999 ∷ minus 2000 ∷ [])) (lights (1 ∷ 1 ∷ 2 ∷ 2 ∷ 3 ∷ []))
+    -- 0 left of a single's first column
+    ∷ case 0 (lit (curved Single (column (minus 9) (pos 2) ∷ column (minus 6) (pos 4) ∷ column (pos 0) (pos 0) ∷ [])) (minus 10 ∷ minus 9 ∷ minus 7 ∷ minus 6 ∷ minus 1 ∷ pos 0 ∷ pos 6 ∷ [])) (lights (0 ∷ 1 ∷ 1 ∷ 2 ∷ 2 ∷ 3 ∷ 3 ∷ []))
+    -- the last sample's, to either side
+    ∷ case 0 (shown (fresh case1 (pos 4000 ∷ []) ∷ fresh case1 (pos 4000 ∷ pos 1334 ∷ []) ∷ fresh case1 (pos 4000 ∷ pos 1334 ∷ minus 1332 ∷ []) ∷ [])) (lights (3 ∷ 2 ∷ 1 ∷ []))
+    -- the last finished one's, where a sample is refused after it
+    ∷ case 0 (shown (fresh case1 (pos 4000 ∷ pos 100 ∷ pos 16777217 ∷ []) ∷ fresh case1 (pos 100 ∷ pos 4000 ∷ minus 16777217 ∷ pos 100 ∷ []) ∷ [])) (lights (1 ∷ 3 ∷ []))
+    -- no sample, a refused first one, 13, 12 and 3
+    ∷ case 0 (shown (fresh case1 [] ∷ fresh case1 (pos 16777217 ∷ pos 4000 ∷ []) ∷ [])) (lights (255 ∷ 255 ∷ []))
+    ∷ case 0 (shown (ran (call case1 freshWaves (pos 4000 ∷ []) []) ∷ ran (call case1 (set freshWaves 1 (pos 1)) (pos 4000 ∷ []) (pos 7 ∷ [])) ∷ fresh (versioned 3 case1) (pos 4000 ∷ []) ∷ [])) (lights (255 ∷ 255 ∷ 255 ∷ []))
+    ∷ []
+
+segments-told : map (λ (l : Line). l .found) segments ≡ map (λ (l : Line). l .paper) segments
+unfolding working segments lit shown fresh
+segments-told = ap₂ _∷_ refl refl
 
 -- ---- operands: a sample with a wave from each child, tapped at either and at the top; a capacitor's sign; the last word of a check
 

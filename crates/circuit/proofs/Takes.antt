@@ -40,11 +40,12 @@ calling = feeding case1 (carrying 1 40 0) (1 ∷ 2 ∷ 3 ∷ 4 ∷ []) (7 ∷ 7 
 sample-joined : available calling ≡ 8 ∷ 1 ∷ 2 ∷ 3 ∷ 4 ∷ []
 sample-joined = refl
 
--- the sample is done, with output 5
-done-taken : taken calling (record { number = 0; outputs = pos 5 ∷ []; waves = [] })
+-- the sample is done, with output 5, in segment 2
+done-taken : taken calling (record { number = 0; outputs = pos 5 ∷ []; segments = 2 ∷ []; waves = [] })
     ≡ record {
       handedBack = done;
       samples = 1;
+      segment = 2;
       carried = record { state = record { waves = [] }; left = 3 ∷ 4 ∷ []; count = 2; done = 41; held = 0 };
       room = 5 ∷ 0 ∷ 0 ∷ 0 ∷ [];
     }
@@ -56,6 +57,7 @@ refused-taken : taken calling (stopped 15 [])
     ≡ record {
       handedBack = report 15 40;
       samples = 0;
+      segment = 255;
       carried = record { state = record { waves = [] }; left = 0 ∷ 0 ∷ []; count = 0; done = 40; held = 15 };
       room = 7 ∷ 7 ∷ 7 ∷ 7 ∷ [];
     }

@@ -69,6 +69,7 @@ pub record Writes (c : WriteCall) (a : Answer) (after : List ℕ) : Type 0 where
 pub record Runs (c : Call) (p : Progress) (after : List ℤ) : Type 0 where
   pub number : handed (p .answer) ≡ ran c .handedBack
   pub samples : p .done ≡ ran c .samples
+  pub segment : p .segment ≡ ran c .segment
   pub waves : p .state .waves ≡ ran c .waves
   pub output : after ≡ ran c .output
 
@@ -88,6 +89,7 @@ pub record Explains (a : Answer) (before : List ℕ) (n : ℕ) (after : List ℕ
 pub record Feeds (f : Feeding) (s : Feed) (after : List ℕ) : Type 0 where
   pub number : handed (s .answer) ≡ fed f .handedBack
   pub samples : s .done ≡ fed f .samples
+  pub segment : s .segment ≡ fed f .segment
   pub carried : s .carried ≡ fed f .carried
   pub room : after ≡ fed f .room
 

@@ -9,7 +9,7 @@ use lib.IntN.{ℤ, pos, _-ℤ_}
 use Rattle.circuit.specs.Counting.{table}
 use Rattle.circuit.specs.Numbers.{Report, Rule, Verdict, rule, judge, of, unless}
 use Rattle.circuit.specs.Record.{noRow}
-use Rattle.circuit.specs.Run.{freshWaves, Played, play, Charged, chargedRules, reportAfter}
+use Rattle.circuit.specs.Run.{freshWaves, Played, play, Charged, chargedRules, noSegment, lastOr, reportAfter}
 use Rattle.circuit.specs.File.{numberAt, signedBytes, zeros, concat}
 use Rattle.circuit.specs.declared.Carried.{Carried}
 use Rattle.circuit.specs.declared.Record.{Record}
@@ -104,9 +104,11 @@ feedRules = of underWay takeRules ++ (rule 16 roomRule ∷ [])
 
 -- ---- what a call hands back and carries on, and the room afterwards
 
+-- the segment is that of the last sample that this call finished; a take carries none on
 pub record Fed : Type 0 where
   pub handedBack : Report
   pub samples : ℕ
+  pub segment : ℕ
   pub carried : Carried
   pub room : List ℕ
 
@@ -128,12 +130,13 @@ abbrev pub taken : Feeding → Played → Fed
 taken f p = record {
   handedBack = reportAfter (f .carried .done + length (p .outputs)) (p .number);
   samples = length (p .outputs);
+  segment = lastOr noSegment (p .segments);
   carried = carriedOn f p;
   room = outputBytes (p .outputs) ++ drop (outputLength * length (p .outputs)) (f .room);
 }
 
 abbrev pub nothingTaken : Feeding → Report → Fed
-nothingTaken f n = record { handedBack = n; samples = 0; carried = f .carried; room = f .room }
+nothingTaken f n = record { handedBack = n; samples = 0; segment = noSegment; carried = f .carried; room = f .room }
 
 unfoldable pub fed : Feeding → Fed
 fed f =

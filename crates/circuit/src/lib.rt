@@ -46,6 +46,9 @@ pub const TOP: u8 = 255;
 // The place of a fault that lies at no row.
 pub const NO_ROW: u8 = 255;
 
+// The segment that is told where no sample was finished.
+pub const NO_SEGMENT: u8 = 255;
+
 // Bytes of a circuit file and of each of its blocks, where a block's check stands, and how many rows a block of rows has.
 pub const FILE_LENGTH: usize = 1536;
 
@@ -335,10 +338,11 @@ pub struct Listed {
     pub length: usize,
 }
 
-// What a run hands back: how many samples are done, and the waves after them.
+// What a run hands back: how many samples are done, the segment that the diode used in the last of them, and the waves after them.
 pub struct Progress {
     pub answer: Answer,
     pub done: usize,
+    pub segment: u8,
     pub state: State,
 }
 
@@ -354,10 +358,11 @@ pub struct Carried {
     pub held: u8,
 }
 
-// What a call of a take hands back: how many samples it did, and what it carries on.
+// What a call of a take hands back: how many samples it did, the segment of the last of them, and what it carries on.
 pub struct Feed {
     pub answer: Answer,
     pub done: usize,
+    pub segment: u8,
     pub carried: Carried,
 }
 

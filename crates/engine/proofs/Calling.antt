@@ -33,7 +33,7 @@ laid-out {r = r} {ws = ws} fixed loaded = record { circuit = r; stored = ws; fix
 
 -- after the last
 abbrev progress : Stop → State → Progress
-progress s state = record { answer = s .answer; done = s .done; state = state }
+progress s state = record { answer = s .answer; done = s .done; segment = s .segment; state = state }
 
 module _ {r : Record} {ratios : List ℕ} {ws : List ℤ} (h : Playable r ratios ws) {s : Stop} {state : State} {ups : List ℤ} where
   pub runs : (xs before : List ℤ) {out : List ℤ} → length xs ≡ length before → Ends (λ vs. vs) r (play r ws xs) before s ups out
@@ -42,7 +42,7 @@ module _ {r : Record} {ratios : List ℕ} {ws : List ℤ} (h : Playable r ratios
       let k = call r ws xs before in
       let e : ran k ≡ worked k (play r ws xs) =
       ran-worked k (ap (λ n. n .number) (allowed-done k (record { cleared = cleared h; equal = equal }))) in
-      record { number = rw e (w .number); samples = rw e (w .samples); waves = rw e waves; output = rw e (w .written) }
+      record { number = rw e (w .number); samples = rw e (w .samples); segment = rw e (w .segment); waves = rw e waves; output = rw e (w .written) }
 
   pub runs-raw : (bytes before : List ℕ) {out : List ℕ} → Ends outputBytes r (play r ws (fitting bytes before)) before s ups out
       → state .waves ≡ play r ws (fitting bytes before) .waves → RunsRaw (rawCall r ws bytes before) (progress s state) out
@@ -51,7 +51,13 @@ module _ {r : Record} {ratios : List ℕ} {ws : List ℤ} (h : Playable r ratios
       let passes = cleared-pass (rawCharged k) (cleared h) in
       let e : ranRaw k ≡ rawWorked k (play r ws (fitting bytes before)) =
       ran-raw-worked k (ap (λ n. n .number) (pass-done chargedRules (rawCharged k) passes)) in
-      record { number = rw e (w .number); samples = rw e (w .samples); waves = rw e waves; room = rw (e, ← length-outputBytes) (w .written) }
+      record {
+        number = rw e (w .number);
+        samples = rw e (w .samples);
+        segment = rw e (w .segment);
+        waves = rw e waves;
+        room = rw (e, ← length-outputBytes) (w .written);
+      }
 
 -- 3 to 12, as they are tried on lists
 module _ {k : Charged} {p : Ports} (h : Charges k p) {n : ℕ} (number : n ≡ handed (p .answer) .number) where

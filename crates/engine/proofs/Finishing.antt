@@ -12,8 +12,8 @@ use lib.Ieee.Bits.{is-true}
 use borrow.Author.Tests.{eq-eqb, ne-eqb, not-true, not-false}
 use Rattle.circuit.specs.Counting.{within, some, table}
 use Rattle.circuit.specs.Record.{partAt, reversedAt, isLeaf, isInput, top, rowLimit}
-use Rattle.circuit.specs.Curve.{waveLimit, reflected}
-use Rattle.circuit.specs.Sample.{Rounding, roundingOf, rounded, sends, stores, partStores, partSends, turned, sent, raised, reached, arriving, kept, output, inLimit, sampled, refused, finished, storedAt}
+use Rattle.circuit.specs.Curve.{waveLimit, reflected, segment}
+use Rattle.circuit.specs.Sample.{Rounding, roundingOf, rounded, sends, stores, partStores, partSends, turned, sent, raised, risen, reached, arriving, kept, output, inLimit, sampled, refused, finished, storedAt}
 use Rattle.circuit.specs.declared.Element.{Element}
 use Rattle.circuit.specs.declared.Element.the-variants.{Resistor, Capacitor, Inductor, Input, Steady}
 use Rattle.circuit.specs.declared.Part.the-variants.{Leaf}
@@ -72,6 +72,10 @@ module _ {p : Plan} {r : Record} {ws : List ℤ} {x : ℤ} {above below : List �
   abbrev arrivesAt : ℕ → ℤ
   arrivesAt = arriving (rounded r) (reflected r) r (storedAt ws) x
 
+  -- the segment
+  abbrev used : ℕ
+  used = segment r (risen (rounded r) r (storedAt ws) x)
+
   abbrev keepsLimit : ℕ → Bool
   keepsLimit j = not (isLeaf (partAt r j)) || within waveLimit (arrivesAt j)
 
@@ -102,7 +106,7 @@ module _ {p : Plan} {r : Record} {ws : List ℤ} {x : ℤ} {above below : List �
     abbrev next : List ℤ
     next = table (kept (rounded r) (reflected r) r (storedAt ws) x) rowLimit
 
-    finishes : sampled r ws x ≡ finished (output (rounded r) (reflected r) r (storedAt ws) x) next
+    finishes : sampled r ws x ≡ finished (output (rounded r) (reflected r) r (storedAt ws) x) used next
     unfolding sampled inLimit
     finishes = rw (h .source, h .calm, Counting.true-every keepsLimit rowLimit (λ j l. keeps j (isLeaf (partAt r j)) refl))
 
@@ -174,7 +178,7 @@ module _ {p : Plan} {r : Record} {ws : List ℤ} {x : ℤ} {above below : List �
     loaded-next k = record {
       size = Counting.length-table (kept (rounded r) (reflected r) r (storedAt ws) x) rowLimit;
       long = k .long ∙ h .still .long;
-      sound = stored-sound r ws x _ next finishes;
+      sound = stored-sound r ws x _ _ next finishes;
       leaves = λ j l e f. let y = leaf-of (partAt r j) e in
           sends-next k j l (y .0) (y .1) (sym (ap isInput (y .1)) ∙ f)
           ∙ sym (ap (λ q. turned (rounded r) (reversedAt r j) (partSends (rounded r) (pos 0) (storedAt next j) q)) (y .1));
@@ -192,9 +196,12 @@ module _ {p : Plan} {r : Record} {ws : List ℤ} {x : ℤ} {above below : List �
   }
 
   -- what it comes to is the definition's sample
-  pub works : (o : Outcome) (after : List ℤ) → Settled (p .shape) (p .turns) above below o after → Works r ws x o after
+  pub works : {told : ℕ} → told ≡ used → (o : Outcome) (after : List ℤ) → Settled (p .shape) (p .turns) told above below o after → Works r ws x o after
   unfolding Works Settled
-  works Loud after s = absurd s
-  works Over after s = (refuses-leaf (s .0), rw (s .1) (h .still))
-  works (Finished v) after s =
-      (next (s .0), finishes (s .0) ∙ ap (λ z. finished z (next (s .0))) (sym (s .1 ∙ tapped (s .0) .1)), loaded-next (s .0) (s .2))
+  works e Loud after s = absurd s
+  works e Over after s = (refuses-leaf (s .0), rw (s .1) (h .still))
+  works e (Finished v n) after s = (
+    next (s .0),
+    finishes (s .0) ∙ ap₂ (λ z m. finished z m (next (s .0))) (sym (s .1 ∙ tapped (s .0) .1)) (sym (s .2 ∙ e)),
+    loaded-next (s .0) (s .3),
+  )

@@ -1,5 +1,5 @@
--- A loop over the samples of a run. Its invariant is `Going`: for every circuit that the plan is of, the first i samples are done, what is
--- shown of their outputs is written, and the waves after them are loaded.
+-- A loop over the samples of a run. Its invariant is `Going`: for every circuit that the plan is of, the first i samples are done, the segment
+-- is that of the last of them, what is shown of their outputs is written, and the waves after them are loaded.
 use Prim.Native.Nat.{ℕ, _+_, _<_, _≤_}
 use native.Mathlib.Omega.{arith}
 use mathlib.Core.Path.{_≡_, refl, sym, ap, _∙_, subst}
@@ -9,11 +9,12 @@ use lib.ListN.{length, getD, drop, length-append, length-drop}
 use lib.Seq.{sets, sets-eq, length-sets, take-at, drop-append-add, drop-drop}
 use Rattle.circuit.specs.Numbers.{handed}
 use Rattle.circuit.specs.Sample.{refused, sampled}
-use Rattle.circuit.specs.Run.{Played, play, reportAfter}
+use Rattle.circuit.specs.Run.{Played, play, noSegment, lastOr, reportAfter}
 use Rattle.circuit.specs.declared.Answer.{Answer}
 use Rattle.circuit.specs.declared.Answer.the-variants.{Done, Sample, Overload}
 use Rattle.circuit.specs.declared.Doubled.{Doubled}
 use Rattle.circuit.specs.declared.Record.{Record}
+use Rattle.laws.proofs.Segments.{last-past}
 use Rattle.laws.proofs.Running.{Midway, midway-start, midway-count, midway-step, midway-refused, midway-done}
 use Rattle.engine.specs.declared.sample.Outcome.{Outcome}
 use Rattle.engine.specs.declared.sample.Outcome.the-variants.{Loud, Over, Finished}
@@ -32,29 +33,32 @@ front-more front piece before at e l =
 
 module _ {A : Type 0} (shown : List ℤ → List A) where
   -- of one circuit
-  pub record Midst (r : Record) (ws xs : List ℤ) (before : List A) (ups : List ℤ) (out : List A) (i : ℕ) : Type 0 where
+  pub record Midst (r : Record) (ws xs : List ℤ) (before : List A) (ups : List ℤ) (out : List A) (i segment : ℕ) : Type 0 where
     pub outputs : List ℤ
+    pub segments : List ℕ
     pub waves : List ℤ
-    pub midway : Midway r ws xs i outputs waves
+    pub midway : Midway r ws xs i outputs segments waves
+    pub last : segment ≡ lastOr noSegment segments
     pub written : out ≡ inFront (shown outputs) before
     pub loaded : Loaded r waves ups
 
-  pub record Going (p : Plan) (ups xs : List ℤ) (before : List A) (up down : List ℤ) (out : List A) (i : ℕ) : Type 0 where
+  pub record Going (p : Plan) (ups xs : List ℤ) (before : List A) (up down : List ℤ) (out : List A) (i segment : ℕ) : Type 0 where
     pub inside : i ≤ length xs
     pub room : Modest down
     pub same : length out ≡ length before
-    pub going : (r : Record) (ws : List ℤ) → Fixed p r → Loaded r ws ups → Midst r ws xs before up out i
+    pub going : (r : Record) (ws : List ℤ) → Fixed p r → Loaded r ws ups → Midst r ws xs before up out i segment
 
 module _ {A : Type 0} {shown : List ℤ → List A} {p : Plan} {ups xs : List ℤ} {before : List A} where
-  pub going-start : {ds : List ℤ} → shown [] ≡ [] → Modest ds → Going shown p ups xs before ups ds before 0
+  pub going-start : {ds : List ℤ} → shown [] ≡ [] → Modest ds → Going shown p ups xs before ups ds before 0 noSegment
   going-start e room = record {
     inside = omega arith;
     room = room;
     same = refl;
-    going = λ r ws f l. record { outputs = []; waves = ws; midway = midway-start r ws xs; written = rw e refl; loaded = l };
+    going = λ r ws f l.
+        record { outputs = []; segments = []; waves = ws; midway = midway-start r ws xs; last = refl; written = rw e refl; loaded = l };
   }
 
-  module _ {up down : List ℤ} {out : List A} {i : ℕ} (g : Going shown p ups xs before up down out i) where
+  module _ {up down : List ℤ} {out : List A} {i segment : ℕ} (g : Going shown p ups xs before up down out i segment) where
     -- the next sample finds what it asks for
     pub going-laid : {ds : List ℤ} → LaidOut p ups ds → LaidOut p up down
     going-laid h =
@@ -63,19 +67,19 @@ module _ {A : Type 0} {shown : List ℤ → List A} {p : Plan} {ups xs : List �
 
     -- no more than the first i are done
     halts : {after : List ℤ} (n : ℕ) (a : Answer) → handed a ≡ reportAfter i n
-        → ((r : Record) (ws : List ℤ) → Fixed p r → (m : Midst shown r ws xs before up out i)
-        → (play r ws xs ≡ record { number = n; outputs = m .outputs; waves = m .waves }) × Loaded r (m .waves) after)
-        → Plays shown p ups xs before (record { answer = a; done = i }) after out
+        → ((r : Record) (ws : List ℤ) → Fixed p r → (m : Midst shown r ws xs before up out i segment)
+        → (play r ws xs ≡ record { number = n; outputs = m .outputs; segments = m .segments; waves = m .waves }) × Loaded r (m .waves) after)
+        → Plays shown p ups xs before (record { answer = a; done = i; segment = segment }) after out
     halts {after} n a told ends = record {
       plays = λ r ws f l.
           let m = g .going r ws f l in
           let e = ends r ws f m in
           let count = midway-count (m .midway) in
-          subst (λ (q : Played). Ends shown r q before (record { answer = a; done = i }) after out) (sym (e .0))
-          (record { number = told ∙ ap (λ k. reportAfter k n) (sym count); samples = sym count; written = m .written; loaded = e .1 });
+          subst (λ (q : Played). Ends shown r q before (record { answer = a; done = i; segment = segment }) after out) (sym (e .0))
+          (record { number = told ∙ ap (λ k. reportAfter k n) (sym count); samples = sym count; segment = m .last; written = m .written; loaded = e .1 });
     }
 
-    pub going-done : length xs ≤ i → Plays shown p ups xs before (record { answer = Done; done = i }) up out
+    pub going-done : length xs ≤ i → Plays shown p ups xs before (record { answer = Done; done = i; segment = segment }) up out
     unfolding handed
     going-done l = halts 0 Done refl (λ r ws f m. (midway-done (m .midway) l, m .loaded))
 
@@ -86,23 +90,23 @@ module _ {A : Type 0} {shown : List ℤ → List A} {p : Plan} {ups xs : List �
 
       refuses : (n : ℕ) (a : Answer) → handed a ≡ reportAfter i n
           → ((r : Record) (ws : List ℤ) → Fixed p r → Loaded r ws up → (sampled r ws (getD xs i (pos 0)) ≡ refused n) × Loaded r ws after)
-          → Plays shown p ups xs before (record { answer = a; done = i }) after out
+          → Plays shown p ups xs before (record { answer = a; done = i; segment = segment }) after out
       refuses n a told w = halts n a told (λ r ws f m. let v = w r (m .waves) f (m .loaded) in (midway-refused (m .midway) l n (v .0), v .1))
 
-      pub going-loud : o ≡ Loud → Plays shown p ups xs before (record { answer = Sample i; done = i }) after out
+      pub going-loud : o ≡ Loud → Plays shown p ups xs before (record { answer = Sample i; done = i; segment = segment }) after out
       unfolding handed Works
       going-loud e = refuses 14 (Sample i) refl (works e)
 
-      pub going-over : o ≡ Over → Plays shown p ups xs before (record { answer = Overload i; done = i }) after out
+      pub going-over : o ≡ Over → Plays shown p ups xs before (record { answer = Overload i; done = i; segment = segment }) after out
       unfolding handed Works
       going-over e = refuses 15 (Overload i) refl (works e)
 
       -- its output is put as one piece more
-      pub going-on : {v : Doubled} → o ≡ Finished v → {later : List A} (at : ℕ) (piece : List A) → later ≡ sets out at piece
+      pub going-on : {v : Doubled} {used : ℕ} → o ≡ Finished v used → {later : List A} (at : ℕ) (piece : List A) → later ≡ sets out at piece
           → at + length piece ≤ length before → ((vs : List ℤ) → length vs ≡ i → length (shown vs) ≡ at)
-          → ((vs : List ℤ) → shown (vs ++ (v .0 ∷ [])) ≡ shown vs ++ piece) → Going shown p ups xs before after ds later (i + 1)
+          → ((vs : List ℤ) → shown (vs ++ (v .0 ∷ [])) ≡ shown vs ++ piece) → Going shown p ups xs before after ds later (i + 1) used
       unfolding Works
-      going-on {v} e at piece put fits size more = record {
+      going-on {v} {used} e at piece put fits size more = record {
         inside = omega arith;
         room = s .room;
         same = ap length put ∙ length-sets out at piece ∙ g .same;
@@ -112,8 +116,10 @@ module _ {A : Type 0} {shown : List ℤ → List A} {p : Plan} {ups xs : List �
             let done = m .outputs in
             record {
               outputs = done ++ (v .0 ∷ []);
+              segments = m .segments ++ (used ∷ []);
               waves = w .0;
-              midway = midway-step (m .midway) l (v .0) (w .0) (w .1);
+              midway = midway-step (m .midway) l (v .0) used (w .0) (w .1);
+              last = sym (last-past noSegment used (m .segments) []);
               written = put ∙ rw (m .written, more done) (front-more (shown done) piece before at (size done (midway-count (m .midway))) fits);
               loaded = w .2;
             };

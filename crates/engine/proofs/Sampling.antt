@@ -251,7 +251,7 @@ module _ {p : Plan} {ups ds : List ℤ} (k : LaidOut p ups ds) (x : ℤ) where
       leaves = λ j l e f. leaf-risen j e ∙ rw (sends-either (roundingOf (r .version)) x (storedAt (k .stored) j) (partAt r j), f);
     }
 
-    top-wave : wave ≡ risen (rounded r) r (storedAt (k .stored)) x
+    pub top-wave : wave ≡ risen (rounded r) r (storedAt (k .stored)) x
     unfolding risen treeOf lastRow
     top-wave =
         let last = k .fixed .slotted .last in

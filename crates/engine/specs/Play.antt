@@ -5,7 +5,7 @@ use mathlib.Core.List.{List, _++_}
 use lib.IntN.{ℤ}
 use lib.ListN.{length, drop}
 use Rattle.circuit.specs.Numbers.{handed, passes}
-use Rattle.circuit.specs.Run.{Played, play, storedWavesRule, reportAfter}
+use Rattle.circuit.specs.Run.{Played, play, storedWavesRule, noSegment, lastOr, reportAfter}
 use Rattle.circuit.specs.declared.Record.{Record}
 use Rattle.engine.specs.declared.play.Stop.{Stop}
 use Rattle.engine.specs.Plan.{Plan}
@@ -16,10 +16,11 @@ abbrev pub inFront : {A : Type 0} → List A → List A → List A
 inFront front before = front ++ drop (length front) before
 
 module _ {A : Type 0} (shown : List ℤ → List A) where
-  -- why no more samples are done, and how many are; what `shown` makes of their outputs is written, and the waves after them are loaded
+  -- why no more samples are done, how many are, and the segment of the last; what `shown` makes of their outputs is written, and the waves after them are loaded
   pub record Ends (r : Record) (p : Played) (before : List A) (s : Stop) (ups : List ℤ) (out : List A) : Type 0 where
     pub number : handed (s .answer) ≡ reportAfter (length (p .outputs)) (p .number)
     pub samples : s .done ≡ length (p .outputs)
+    pub segment : s .segment ≡ lastOr noSegment (p .segments)
     pub written : out ≡ inFront (shown (p .outputs)) before
     pub loaded : Loaded r (p .waves) ups
 

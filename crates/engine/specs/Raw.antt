@@ -7,7 +7,7 @@ use lib.Dec.{eqb}
 use lib.ListN.{length, take, drop}
 use lib.IntN.{ℤ}
 use Rattle.circuit.specs.Numbers.{Report, handed, judge}
-use Rattle.circuit.specs.Run.{Played, play, Charged, chargedRules, reportAfter}
+use Rattle.circuit.specs.Run.{Played, play, Charged, chargedRules, noSegment, lastOr, reportAfter}
 use Rattle.circuit.specs.Take.{outputLength, samplesOf, outputBytes}
 use Rattle.circuit.specs.declared.Progress.{Progress}
 use Rattle.circuit.specs.declared.Record.{Record}
@@ -34,6 +34,7 @@ rawInput c = fitting (c .bytes) (c .room)
 pub record RanRaw : Type 0 where
   pub handedBack : Report
   pub samples : ℕ
+  pub segment : ℕ
   pub waves : List ℤ
   pub room : List ℕ
 
@@ -41,12 +42,13 @@ abbrev pub rawWorked : RawCall → Played → RanRaw
 rawWorked c p = record {
   handedBack = reportAfter (length (p .outputs)) (p .number);
   samples = length (p .outputs);
+  segment = lastOr noSegment (p .segments);
   waves = p .waves;
   room = outputBytes (p .outputs) ++ drop (outputLength * length (p .outputs)) (c .room);
 }
 
 abbrev pub rawTurnedAway : RawCall → Report → RanRaw
-rawTurnedAway c n = record { handedBack = n; samples = 0; waves = c .waves; room = c .room }
+rawTurnedAway c n = record { handedBack = n; samples = 0; segment = noSegment; waves = c .waves; room = c .room }
 
 unfoldable pub ranRaw : RawCall → RanRaw
 ranRaw c =
@@ -57,5 +59,6 @@ ranRaw c =
 pub record RunsRaw (c : RawCall) (p : Progress) (after : List ℕ) : Type 0 where
   pub number : handed (p .answer) ≡ ranRaw c .handedBack
   pub samples : p .done ≡ ranRaw c .samples
+  pub segment : p .segment ≡ ranRaw c .segment
   pub waves : p .state .waves ≡ ranRaw c .waves
   pub room : after ≡ ranRaw c .room

@@ -82,12 +82,12 @@ pub record Settles (shape : Shape) (turns ups ds : List ℤ) : Type 0 where
   pub port : leafOver (shape .adaptors) ds ≡ false → Port ups ds (shape .tap)
   pub restores : leafOver (shape .adaptors) ds ≡ false → Restores turns (shape .reactive) ups ds
 
--- the waves are as they were, or the tap's two are put out and the reactive leaves' kept
-unfoldable pub Settled : Shape → List ℤ → List ℤ → List ℤ → Outcome → List ℤ → Type 0
-Settled shape turns ups ds Loud after = ⊥
-Settled shape turns ups ds Over after = (leafOver (shape .adaptors) ds ≡ true) × (after ≡ ups)
-Settled shape turns ups ds (Finished v) after =
-    (leafOver (shape .adaptors) ds ≡ false) × (v .0 ≡ turnedBy (shape .meter) (storedAt ups (shape .tap) +ℤ storedAt ds (shape .tap)))
+-- the waves are as they were, or the tap's two are put out, with the segment, and the reactive leaves' kept
+unfoldable pub Settled : Shape → List ℤ → ℕ → List ℤ → List ℤ → Outcome → List ℤ → Type 0
+Settled shape turns segment ups ds Loud after = ⊥
+Settled shape turns segment ups ds Over after = (leafOver (shape .adaptors) ds ≡ true) × (after ≡ ups)
+Settled shape turns segment ups ds (Finished v used) after =
+    (leafOver (shape .adaptors) ds ≡ false) × (v .0 ≡ turnedBy (shape .meter) (storedAt ups (shape .tap) +ℤ storedAt ds (shape .tap))) × (used ≡ segment)
     × Restored turns ds (shape .reactive) ups after
 
 -- ---- what is laid out for a run, and what changes from sample to sample
@@ -133,7 +133,7 @@ pub record LaidOut (p : Plan) (ups ds : List ℤ) : Type 0 where
 unfoldable pub Works : Record → List ℤ → ℤ → Outcome → List ℤ → Type 0
 Works r ws x Loud ups = (sampled r ws x ≡ refused 14) × Loaded r ws ups
 Works r ws x Over ups = (sampled r ws x ≡ refused 15) × Loaded r ws ups
-Works r ws x (Finished v) ups = (next : List ℤ) × (sampled r ws x ≡ finished (v .0) next) × Loaded r next ups
+Works r ws x (Finished v used) ups = (next : List ℤ) × (sampled r ws x ≡ finished (v .0) used next) × Loaded r next ups
 
 pub record Samples (p : Plan) (ups : List ℤ) (x : ℤ) (o : Outcome) (after ds : List ℤ) : Type 0 where
   pub works : (r : Record) (ws : List ℤ) → Fixed p r → Loaded r ws ups → Works r ws x o after

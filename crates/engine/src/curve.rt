@@ -13,12 +13,12 @@ ghost use Rattle.whole.specs.Order.{Abs};
 ghost use Rattle.whole.specs.Fraction.{whole};
 ghost use Rattle.circuit.specs.Record.{columnLimit};
 ghost use Rattle.circuit.specs.Curve as Curve;
-ghost use Rattle.circuit.specs.Curve.{waveLimit, passed, towardZero, reflected};
+ghost use Rattle.circuit.specs.Curve.{waveLimit, passed, towardZero};
 ghost use Rattle.circuit.specs.declared.Record.{Record};
 ghost use Rattle.laws.specs.Accepted.{Drawn};
 ghost use Rattle.sheet.specs.Sheet.{columnsIn};
 ghost use Rattle.parts.specs.Parts.{mirrorOf};
-ghost use Rattle.engine.specs.Curve.{lineBy, Sloped, lineLimit, columnIn, slopeIn, lineIn, lastLine, Plotted, Drawing};
+ghost use Rattle.engine.specs.Curve.{lineBy, Sloped, lineLimit, columnIn, slopeIn, lineIn, lastLine, Plotted, Drawing, Reflects};
 
 // One line more than there are columns, and one more to make them a power of two.
 pub(crate) const LINES: usize = COLUMNS + 2;
@@ -119,7 +119,7 @@ pub(crate) fn lay_lines(width: usize, xs: &Coordinates, ys: &Coordinates, lines:
 // and each turn then waits for the one before it.
 fn segment(width: usize, lines: &[Line; LINES], wave: i64) -> usize
     requires { ⌜ ((r : Record) × Drawing r width (now lines)) × Abs wave waveLimit ⌝ }
-    ensures { λ n. ⌜ ((r : Record) → Drawing r width (now (lines .entry)) → (n ≤ r .width) × (n ≡ passed r (whole wave))) ⌝ }
+    ensures { λ n. ⌜ ((r : Record) → Drawing r width (now (lines .entry)) → n ≡ passed r (whole wave)) ⌝ }
 {
     let mut low = 0;
     let mut high = width;
@@ -139,25 +139,40 @@ fn segment(width: usize, lines: &[Line; LINES], wave: i64) -> usize
     }
 }
 
-// The drawn line at a wave.
-fn drawn(width: usize, lines: &[Line; LINES], wave: i64) -> i64
-    requires { ⌜ ((r : Record) × Drawing r width (now lines)) × Abs wave waveLimit ⌝ }
-    ensures { λ a. ⌜ ((r : Record) → Drawing r width (now (lines .entry)) → a ≡ towardZero (Curve.drawn r (whole wave))) ⌝ }
+// The drawn line at a wave of segment n, with one division.
+fn drawn(n: usize, lines: &[Line; LINES], wave: i64) -> i64
+    requires { ⌜ ((r : Record) × (width : ℕ) × Drawing r width (now lines) × (n ≡ passed r (whole wave))) × Abs wave waveLimit ⌝ }
+    ensures { λ a. ⌜ ((r : Record) (width : ℕ) → Drawing r width (now (lines .entry)) → n ≡ passed r (whole wave)
+        → a ≡ towardZero (Curve.drawn r (whole wave))) ⌝ }
 {
-    let n = segment(width, lines, wave);
     let l = lines[n];
     (l[1] * wave + l[2]) / ((l[3] as u32) as i64 + 1)
 }
 
-// The wave that the diode sends back, with one division.
-pub(crate) fn reflect(mirror: i64, width: usize, lines: &[Line; LINES], wave: Wave) -> Wave
+// The wave that the diode sends back, and the segment that it used.
+pub(crate) struct Reflection {
+    pub wave: Wave,
+    pub segment: u8,
+}
+
+// A pair's negative wave is looked up by its magnitude.
+pub(crate) fn reflect(mirror: i64, width: usize, lines: &[Line; LINES], wave: Wave) -> Reflection
     requires { ⌜ ((r : Record) × Drawing r width (now lines) × (mirror ≡ mirrorOf (r .kind))) × Abs (wave .0) waveLimit ⌝ }
-    ensures { λ a. ⌜ ((r : Record) → Drawing r width (now (lines .entry)) → mirror ≡ mirrorOf (r .kind) → a .0 ≡ reflected r (wave .0)) ⌝ }
+    ensures { λ a. ⌜ ((r : Record) → Drawing r width (now (lines .entry)) → mirror ≡ mirrorOf (r .kind) → Reflects r (wave .0) a) ⌝ }
 {
     let a = wave.0;
     if a < mirror {
-        Wave(-drawn(width, lines, -a))
+        let magnitude = -a;
+        let n = segment(width, lines, magnitude);
+        Reflection {
+            wave: Wave(-drawn(n, lines, magnitude)),
+            segment: n as u8,
+        }
     } else {
-        Wave(drawn(width, lines, a))
+        let n = segment(width, lines, a);
+        Reflection {
+            wave: Wave(drawn(n, lines, a)),
+            segment: n as u8,
+        }
     }
 }

@@ -13,6 +13,7 @@ use crate::sample::turned;
 use crate::slot::slot_at;
 use circuit::Answer;
 use circuit::Doubled;
+use circuit::NO_SEGMENT;
 use circuit::Progress;
 use circuit::ROWS;
 use circuit::State;
@@ -98,10 +99,11 @@ fn put(output: &mut [i32], i: usize, v: Doubled)
     output[i] = doubled;
 }
 
-// How many samples are done, and why no more are.
+// How many samples are done, the segment of the last of them, and why no more are done.
 pub(crate) struct Stop {
     pub answer: Answer,
     pub done: usize,
+    pub segment: u8,
 }
 
 fn samples(
@@ -125,6 +127,7 @@ fn samples(
 {
     let mut down = [0i64; ROWS];
     let mut i: usize = 0;
+    let mut segment = NO_SEGMENT;
     while i < input.len() {
         let x = input[i];
         let outcome = sample(
@@ -144,21 +147,27 @@ fn samples(
                 return Stop {
                     answer: Answer::Sample(i),
                     done: i,
+                    segment,
                 };
             }
             Outcome::Over => {
                 return Stop {
                     answer: Answer::Overload(i),
                     done: i,
+                    segment,
                 };
             }
-            Outcome::Finished(v) => put(output, i, v),
+            Outcome::Finished(v, used) => {
+                put(output, i, v);
+                segment = used;
+            }
         }
         i += 1;
     }
     Stop {
         answer: Answer::Done,
         done: i,
+        segment,
     }
 }
 
@@ -222,6 +231,7 @@ pub(crate) fn play(
     Progress {
         answer,
         done: stop.done,
+        segment: stop.segment,
         state: after,
     }
 }

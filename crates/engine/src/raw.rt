@@ -13,6 +13,7 @@ use crate::play::unload;
 use crate::sample::Outcome;
 use crate::sample::sample;
 use circuit::Answer;
+use circuit::NO_SEGMENT;
 use circuit::OUTPUT_LENGTH;
 use circuit::Progress;
 use circuit::ROWS;
@@ -66,6 +67,7 @@ fn raw_samples(
     let count = fitting(left.len() + more.len(), out.len());
     let mut down = [0i64; ROWS];
     let mut i: usize = 0;
+    let mut segment = NO_SEGMENT;
     while i < count {
         let x = sample_at(left, more, i);
         let outcome = sample(
@@ -85,21 +87,27 @@ fn raw_samples(
                 return Stop {
                     answer: Answer::Sample(i),
                     done: i,
+                    segment,
                 };
             }
             Outcome::Over => {
                 return Stop {
                     answer: Answer::Overload(i),
                     done: i,
+                    segment,
                 };
             }
-            Outcome::Finished(v) => put(out, OUTPUT_LENGTH * i, v),
+            Outcome::Finished(v, used) => {
+                put(out, OUTPUT_LENGTH * i, v);
+                segment = used;
+            }
         }
         i += 1;
     }
     Stop {
         answer: Answer::Done,
         done: i,
+        segment,
     }
 }
 
@@ -166,6 +174,7 @@ pub(crate) fn play_raw(
     Progress {
         answer,
         done: stop.done,
+        segment: stop.segment,
         state: after,
     }
 }

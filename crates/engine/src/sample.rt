@@ -107,17 +107,17 @@ fn tapped(meter: i64, up: Wave, down: Wave) -> Doubled
     Doubled(turned(meter, up.0 + down.0) as i32)
 }
 
-// What a sample comes to.
+// What a sample comes to: it is refused with 14 or 15, or it has an output and the segment that the diode used.
 pub(crate) enum Outcome {
     Loud,
     Over,
-    Finished(Doubled),
+    Finished(Doubled, u8),
 }
 
 // The end of a sample. Rule 15 at the leaves comes before anything is stored, and the tap reads what its row has sent, not what it sends next.
-fn settle(shape: Shape, turns: &[i64; ROWS], up: &mut [i64; ROWS], down: &[i64; ROWS]) -> Outcome
+fn settle(shape: Shape, turns: &[i64; ROWS], segment: u8, up: &mut [i64; ROWS], down: &[i64; ROWS]) -> Outcome
     requires { ⌜ Settles shape (now turns) (now up) (now down) ⌝ }
-    ensures { λ o. ⌜ Settled shape (now (turns .entry)) (now (up .entry)) (now (down .entry)) o (now (up .exit)) ⌝ }
+    ensures { λ o. ⌜ Settled shape (now (turns .entry)) segment (now (up .entry)) (now (down .entry)) o (now (up .exit)) ⌝ }
 {
     if leaf_over(shape.adaptors, down) {
         return Outcome::Over;
@@ -125,7 +125,7 @@ fn settle(shape: Shape, turns: &[i64; ROWS], up: &mut [i64; ROWS], down: &[i64; 
     let tap = shape.tap;
     let output = tapped(shape.meter, wave_at(up, tap), wave_at(down, tap));
     store(turns, shape.reactive, down, up);
-    Outcome::Finished(output)
+    Outcome::Finished(output, segment)
 }
 
 // Between samples `up` holds what every leaf but the input sends next; a refused sample keeps that. `down` is room for the sweep down.
@@ -156,8 +156,8 @@ pub(crate) fn sample(
         return Outcome::Over;
     }
     let answer = reflect(shape.mirror, shape.width, lines, risen);
-    let top = answer.0;
+    let top = answer.wave.0;
     down[FLOOR + n] = top;
     sweep_down(shape.inward, joins, firsts, seconds, ratios, n, up, down);
-    settle(shape, turns, up, down)
+    settle(shape, turns, answer.segment, up, down)
 }

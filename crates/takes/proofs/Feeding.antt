@@ -12,7 +12,7 @@ use lib.ListN.{length, take}
 use lib.Seq.{take-all}
 use Rattle.circuit.specs.Numbers.{Report, handed, judge}
 use Rattle.circuit.specs.File.{zeros}
-use Rattle.circuit.specs.Run.{Played, play, chargedRules, reportAfter}
+use Rattle.circuit.specs.Run.{Played, play, chargedRules, noSegment, reportAfter}
 use Rattle.circuit.specs.Take.{sampleLength, outputLength, leftLimit, samplesOf, leftOver, stored, Feeding, feeding, underWay, available, feedRules, Fed, nothingTaken, fed}
 use Rattle.circuit.specs.Promises.{Feeds}
 use Rattle.circuit.specs.declared.Answer.{Answer}
@@ -33,19 +33,22 @@ use Rattle.takes.proofs.Deciding.{whole-samples, ready-open}
 -- ---- what is promised, from what the call makes
 
 pub feeds : (f : Feeding) (s : Feed) (after : List ℕ) (g : Fed) → fed f ≡ g
-    → handed (s .answer) ≡ g .handedBack → s .done ≡ g .samples → s .carried ≡ g .carried → after ≡ g .room → Feeds f s after
-feeds f s after g e n d c r = record {
+    → handed (s .answer) ≡ g .handedBack → s .done ≡ g .samples → s .segment ≡ g .segment → s .carried ≡ g .carried → after ≡ g .room → Feeds f s after
+feeds f s after g e n d l c r = record {
   number = n ∙ ap (λ (g : Fed). g .handedBack) (sym e);
   samples = d ∙ ap (λ (g : Fed). g .samples) (sym e);
+  segment = l ∙ ap (λ (g : Fed). g .segment) (sym e);
   carried = c ∙ ap (λ (g : Fed). g .carried) (sym e);
   room = r ∙ ap (λ (g : Fed). g .room) (sym e);
 }
 
 -- a refused call
-pub feeds-refused : (f : Feeding) (s : Feed) (after : List ℕ) (a : Answer) → s ≡ record { answer = a; done = 0; carried = f .carried }
-    → fed f ≡ record { handedBack = handed a; samples = 0; carried = f .carried; room = after } → Feeds f s after
+pub feeds-refused : (f : Feeding) (s : Feed) (after : List ℕ) (a : Answer)
+    → s ≡ record { answer = a; done = 0; segment = noSegment; carried = f .carried }
+    → fed f ≡ record { handedBack = handed a; samples = 0; segment = noSegment; carried = f .carried; room = after } → Feeds f s after
 feeds-refused f s after a e h =
-    feeds f s after _ h (ap (λ (x : Feed). handed (x .answer)) e) (ap (λ (x : Feed). x .done) e) (ap (λ (x : Feed). x .carried) e) refl
+    feeds f s after _ h (ap (λ (x : Feed). handed (x .answer)) e) (ap (λ (x : Feed). x .done) e) (ap (λ (x : Feed). x .segment) e)
+    (ap (λ (x : Feed). x .carried) e) refl
 
 -- it takes nothing
 pub fed-kept : (f : Feeding) (a : Answer) → handed a ≡ judge feedRules f → (handed a .number ≡ 0 → ⊥) → fed f ≡ nothingTaken f (handed a)
@@ -56,6 +59,7 @@ fed-kept f a e h = rw (← e, ne-eqb (handed a .number) 0 h)
 record Did (p : Progress) (after : List ℕ) (x : RanRaw) : Type 0 where
   number : handed (p .answer) ≡ x .handedBack
   samples : p .done ≡ x .samples
+  segment : p .segment ≡ x .segment
   waves : p .state .waves ≡ x .waves
   room : after ≡ x .room
 
@@ -63,6 +67,7 @@ did : {c : RawCall} {p : Progress} {after : List ℕ} {x : RanRaw} → RunsRaw c
 did h e = record {
   number = h .number ∙ ap (λ (y : RanRaw). y .handedBack) e;
   samples = h .samples ∙ ap (λ (y : RanRaw). y .samples) e;
+  segment = h .segment ∙ ap (λ (y : RanRaw). y .segment) e;
   waves = h .waves ∙ ap (λ (y : RanRaw). y .waves) e;
   room = h .room ∙ ap (λ (y : RanRaw). y .room) e;
 }
@@ -125,6 +130,7 @@ module _ {r : Record} {c : Carried} {s o : List ℕ} {p : Progress} {after : Lis
   played n = record {
     handedBack = reportAfter (c .done + p .done) n;
     samples = p .done;
+    segment = p .segment;
     carried = record { state = record { waves = p .state .waves }; left = take leftLimit (kept n ++ zeros leftLimit); count = length (kept n); done = c .done + p .done; held = n };
     room = after;
   }
@@ -136,17 +142,17 @@ module _ {r : Record} {c : Carried} {s o : List ℕ} {p : Progress} {after : Lis
       by zero z =
           let w = passed z in
           fed-taken call (ready-open (underWay call) (run .ready) z) (run .ready .room ∙ ap (λ n. outputLength * n) (sym how-many))
-          ∙ rw (← (played-number z ∙ q), w .samples, w .waves, w .room)
+          ∙ rw (← (played-number z ∙ q), w .samples, w .segment, w .waves, w .room)
       by (suc m) z =
           let same = ap (λ (n : Report). n .number) (refused (omega arith) .number) in
           absurd (⊎-elim (λ e. omega arith) (λ e. omega (arith, charged-below (stored (underWay call)))) d)
 
   -- the circuit is refused
   pub fed-unplayed : (handed (p .answer) .number ≡ 0 → ⊥) → (handed (p .answer) .number ≡ 15 → ⊥)
-      → fed call ≡ record { handedBack = handed (p .answer); samples = 0; carried = c; room = after }
+      → fed call ≡ record { handedBack = handed (p .answer); samples = 0; segment = noSegment; carried = c; room = after }
   fed-unplayed a b = by (first .number) refl
     where
-      by : (m : ℕ) → first .number ≡ m → fed call ≡ record { handedBack = handed (p .answer); samples = 0; carried = c; room = after }
+      by : (m : ℕ) → first .number ≡ m → fed call ≡ record { handedBack = handed (p .answer); samples = 0; segment = noSegment; carried = c; room = after }
       by zero z =
           let same = played-number z in
           absurd (b (sym same ∙ samples-number r (c .state .waves) (available call) (rw same (pos-of-ne-zero a))))

@@ -1,6 +1,7 @@
 // A raw take through a circuit: samples of three bytes in, outputs of four bytes out, cut at any byte.
 ghost use mathlib.Core.Path.{_≡_};
 ghost use lib.ListN.{length};
+ghost use Rattle.circuit.specs.Run.{noSegment};
 ghost use Rattle.circuit.specs.Take.{takeOf, freshTake, feeding};
 ghost use Rattle.circuit.specs.Promises.{Feeds, Ends};
 ghost use Rattle.takes.specs.Own.{Ready};
@@ -12,6 +13,7 @@ use circuit::Answer;
 use circuit::Carried;
 use circuit::Feed;
 use circuit::LEFT_LIMIT;
+use circuit::NO_SEGMENT;
 use circuit::Record;
 use left::left_after;
 use rules::end_rule;
@@ -34,11 +36,12 @@ pub fn start() -> Carried
 
 // A refused call takes no byte and carries on what it was given.
 fn turned_away(answer: Answer, carried: Carried) -> Feed
-    ensures { λ f. ⌜ f ≡ record { answer = answer; done = 0; carried = carried } ⌝ }
+    ensures { λ f. ⌜ f ≡ record { answer = answer; done = 0; segment = noSegment; carried = carried } ⌝ }
 {
     Feed {
         answer,
         done: 0,
+        segment: NO_SEGMENT,
         carried,
     }
 }
@@ -62,6 +65,7 @@ fn work(r: Record, carried: Carried, bytes: &[u8], out: &mut [u8]) -> Feed
         return Feed {
             answer: Answer::Done,
             done: progress.done,
+            segment: progress.segment,
             carried: Carried {
                 state: after,
                 left: kept,
@@ -77,6 +81,7 @@ fn work(r: Record, carried: Carried, bytes: &[u8], out: &mut [u8]) -> Feed
         return Feed {
             answer: Answer::Overload(done as usize),
             done: progress.done,
+            segment: progress.segment,
             carried: Carried {
                 state: after,
                 left: kept,

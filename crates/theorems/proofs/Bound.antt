@@ -162,12 +162,12 @@ below-limit (suc n) = omega arith
 within-le : {E F : ℕ} {r : Record} {waves : List ℤ} {x v : ℤ} {next : List ℤ} → E ≤ F → Within E r waves x v next → Within F r waves x v next
 within-le l w = record { out = near-le l (w .out); stored = λ j k. near-le l (w .stored j k) }
 
-module _ (r : Record) (sized : Sized r) (accepted : setUpReport r ≡ done) (waves : List ℤ) (x v : ℤ) (next : List ℤ)
-    (works : sampled r waves x ≡ finished v next) where
+module _ (r : Record) (sized : Sized r) (accepted : setUpReport r ≡ done) (waves : List ℤ) (x v : ℤ) (s : ℕ) (next : List ℤ)
+    (works : sampled r waves x ≡ finished v s next) where
   pub sharper : Within (leastLimit (adaptorsOf r)) r waves x v next
   sharper =
       let a = accepting r sized accepted in
-      let f = finished-means r waves x v next works in
+      let f = finished-means r waves x v s next works in
       let ρ = roundingOf (r .version) in
       let errs = rounding-errs (r .version) in
       record {

@@ -14,9 +14,9 @@ use Rattle.circuit.specs.Counting.{within, table}
 use Rattle.circuit.specs.Numbers.{done, judge}
 use Rattle.circuit.specs.Record.{rowLimit, sourceLimit, partAt, reversedAt, isLeaf}
 use Rattle.circuit.specs.SetUp.{setUpReport}
-use Rattle.circuit.specs.Curve.{waveLimit, reflected}
+use Rattle.circuit.specs.Curve.{waveLimit, reflected, segment}
 use Rattle.circuit.specs.Sample.{Rounding, wholeWaves, roundingOf, rounded, turned, risen, reached, arriving, kept, output, Sampled, refused, finished, storedAt, inLimit, sampled}
-use Rattle.circuit.specs.Run.{Played, play, _before_, storedWavesRule, lengthsRule, Call, call, charged, runRules, ran}
+use Rattle.circuit.specs.Run.{Played, play, leading, storedWavesRule, lengthsRule, Call, call, charged, runRules, ran}
 use Rattle.circuit.specs.Promises.{Runs}
 use Rattle.circuit.specs.declared.Record.{Record}
 use Rattle.circuit.specs.declared.Progress.{Progress}
@@ -30,15 +30,15 @@ use Rattle.theorems.specs.Changed.{changed, changedPlay, Changed, Answer
 
 -- ---- a sample
 
--- by its two tests, its output and its waves
-abbrev outcome : Bool → Bool → ℤ → List ℤ → Sampled
-outcome a b v next = cond a (cond b (finished v next) (refused 15)) (refused 14)
+-- by its two tests, its output, its segment and its waves
+abbrev outcome : Bool → Bool → ℤ → ℕ → List ℤ → Sampled
+outcome a b v s next = cond a (cond b (finished v s next) (refused 15)) (refused 14)
 
-outcome-changed : (turn : ℤ → ℤ) (carry : List ℤ → List ℤ) (a b : Bool) (v : ℤ) (next : List ℤ)
-    → outcome a b (turn v) (carry next) ≡ changed turn carry (outcome a b v next)
-outcome-changed turn carry true true v next = refl
-outcome-changed turn carry true false v next = refl
-outcome-changed turn carry false b v next = refl
+outcome-changed : (turn : ℤ → ℤ) (carry : List ℤ → List ℤ) (a b : Bool) (v : ℤ) (s : ℕ) (next : List ℤ)
+    → outcome a b (turn v) s (carry next) ≡ changed turn carry (outcome a b v s next)
+outcome-changed turn carry true true v s next = refl
+outcome-changed turn carry true false v s next = refl
+outcome-changed turn carry false b v s next = refl
 
 -- what a test picks, where each of the two is changed
 pub either : (b : Bool) (turn : ℤ → ℤ) (v w v′ w′ : ℤ) → (b ≡ true → v′ ≡ turn v) → (b ≡ false → w′ ≡ turn w) → cond b v′ w′ ≡ turn (cond b v w)
@@ -67,13 +67,14 @@ module _ (r s : Record) (part : (j : ℕ) → partAt s j ≡ partAt r j) (ws ws�
       (every-same _ _ rowLimit (λ j l. ap₂ (λ p b. not (isLeaf p) || b) (part j) (ap (λ n. leb n waveLimit) (arriving-size j))))
 
   pub sample-changed : (turn : ℤ → ℤ) (carry : List ℤ → List ℤ)
+      → segment s (risen (rounded s) s (storedAt ws′) x′) ≡ segment r (risen (rounded r) r (storedAt ws) x)
       → output (rounded s) (reflected s) s (storedAt ws′) x′ ≡ turn (output (rounded r) (reflected r) r (storedAt ws) x)
       → table (kept (rounded s) (reflected s) s (storedAt ws′) x′) rowLimit ≡ carry (table (kept (rounded r) (reflected r) r (storedAt ws) x) rowLimit)
       → sampled s ws′ x′ ≡ changed turn carry (sampled r ws x)
   unfolding sampled
-  sample-changed turn carry out stores =
-      (λ i. outcome (leb (source i) sourceLimit) (limit-same i) (out i) (stores i))
-      ∙ outcome-changed turn carry (within sourceLimit x) (inLimit r ws x) (output (rounded r) (reflected r) r (storedAt ws) x) _
+  sample-changed turn carry used out stores =
+      (λ i. outcome (leb (source i) sourceLimit) (limit-same i) (out i) (used i) (stores i))
+      ∙ outcome-changed turn carry (within sourceLimit x) (inLimit r ws x) (output (rounded r) (reflected r) r (storedAt ws) x) _ _
 
 -- ---- samples in order, each sample changed by `feed`
 
@@ -91,10 +92,10 @@ module _ (r s : Record) (turn feed : ℤ → ℤ) (carry : List ℤ → List ℤ
       by (refused n) e later =
           play-refused s (carry ws) (feed x) (map feed xs) n (each ws x ∙ ap (changed turn carry) e)
           ∙ sym (ap (changedPlay turn carry) (play-refused r ws x xs n e))
-      by (finished v next) e later =
-          play-finished s (carry ws) (feed x) (map feed xs) (turn v) (carry next) (each ws x ∙ ap (changed turn carry) e)
-          ∙ ap {B = Played} (λ p. turn v before p) (later next)
-          ∙ sym (ap (changedPlay turn carry) (play-finished r ws x xs v next e))
+      by (finished v n next) e later =
+          play-finished s (carry ws) (feed x) (map feed xs) (turn v) n (carry next) (each ws x ∙ ap (changed turn carry) e)
+          ∙ ap {B = Played} (leading (turn v) n) (later next)
+          ∙ sym (ap (changedPlay turn carry) (play-finished r ws x xs v n next e))
 
   -- ---- a run, with any output buffer of the same length, where set-up and rule 12 say the same
 
@@ -124,7 +125,7 @@ module _ (r s : Record) (turn feed : ℤ → ℤ) (carry : List ℤ → List ℤ
         by : (n : ℕ) → judge runRules c .number ≡ n → Changed turn carry (ran c) (ran c′)
         by (suc n) e =
             rw (ran-refused c (omega arith), ran-refused c′ (rw judged (omega arith)))
-            (record { handedBack = judged; samples = refl; waves = refl; outputs = refl })
+            (record { handedBack = judged; samples = refl; segment = refl; waves = refl; outputs = refl })
         by zero e =
             let p = play r ws xs in
             let played : play s (carry ws) xs′ ≡ changedPlay turn carry p =
@@ -133,6 +134,7 @@ module _ (r s : Record) (turn feed : ℤ → ℤ) (carry : List ℤ → List ℤ
             (record {
               handedBack = rw (length-map (p .outputs) turn) refl;
               samples = length-map (p .outputs) turn;
+              segment = refl;
               waves = refl;
               outputs = take-append-seam (map turn (p .outputs)) _ ∙ sym (ap (map turn) (take-append-seam (p .outputs) _));
             })
@@ -148,6 +150,7 @@ module _ (turn : ℤ → ℤ) (carry : List ℤ → List ℤ) (silence : turn (p
       record {
         number = runs′ .number ∙ h .handedBack ∙ sym (runs .number);
         samples = done;
+        segment = runs′ .segment ∙ h .segment ∙ sym (runs .segment);
         waves = runs′ .waves ∙ h .waves ∙ ap carry (sym (runs .waves));
         outputs = λ i l.
             sym (getD-take (p .done) out′ i (pos 0) l) ∙ ap₂ (λ s d. getD s i d) outputs (sym silence)

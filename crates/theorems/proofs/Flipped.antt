@@ -11,7 +11,7 @@ use Rattle.circuit.specs.Counting.{every}
 use Rattle.circuit.specs.Numbers.{unless, _then_, lowest}
 use Rattle.circuit.specs.Record.{rowLimit, blankRow, rowIn, rowAt, partAt, isBlank, isLeaf, inForm, formRule}
 use Rattle.circuit.specs.SetUp.{setUpReport}
-use Rattle.circuit.specs.Curve.{soundColumn, passesOrigin, columnRule, passed, piece, drawn, lineOf, line, towardZero, reflected}
+use Rattle.circuit.specs.Curve.{soundColumn, passesOrigin, columnRule, passed, piece, drawn, lineOf, line, towardZero, reflected, segment}
 use Rattle.circuit.specs.declared.CurveKind.{CurveKind}
 use Rattle.circuit.specs.declared.CurveKind.the-variants.{Unset, Single, Pair}
 use Rattle.circuit.specs.declared.Part.{Part}
@@ -59,6 +59,10 @@ module _ (pick : ℕ → Bool) (r : Record) where
   pub reflected-same : (a : ℤ) → reflected s a ≡ reflected r a
   unfolding reflected line drawn passed
   reflected-same a = ap (λ f. towardZero (lineOf (r .kind) f (whole a))) (fun-ext (λ p. ap (λ f. f p) (piece-same (passed r p))))
+
+  pub segment-same : (a : ℤ) → segment s a ≡ segment r a
+  unfolding segment passed
+  segment-same a = refl
 
   sound-same : (i : ℕ) → soundColumn s i ≡ soundColumn r i
   unfolding soundColumn

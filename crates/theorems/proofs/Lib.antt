@@ -11,3 +11,4 @@ pub mod Odd
 pub mod Opposite
 pub mod Flipped
 pub mod Reversed
+pub mod Light

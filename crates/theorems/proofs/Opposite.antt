@@ -23,6 +23,7 @@ use Rattle.circuit.specs.declared.Progress.{Progress}
 use Rattle.laws.specs.Accepted.{Sized, Drawn}
 use Rattle.laws.proofs.Accepting.{accepting}
 use Rattle.laws.proofs.Counting.{table-same, lowest-same}
+use Rattle.laws.proofs.Segments.{pair-segment}
 use Rattle.theorems.specs.Changed.{changed}
 use Rattle.theorems.specs.Opposite.{Silent, Balanced, opposite, Opposed, Nulls}
 use Rattle.theorems.proofs.Changed.{either, sample-changed, ran-changed, runs-changed}
@@ -119,7 +120,8 @@ module _ {r : Record} (balanced : Balanced r) where
     sample-opposite : sampled r (opposite ws) (negℤ x) ≡ changed negℤ opposite (sampled r ws x)
     sample-opposite =
         let keeps = kept 𝓐 (reflected r) r stored x in
-        sample-changed r r (λ j. refl) ws (opposite ws) x (negℤ x) (natAbs-neg x) (over .topSize) (over .size) negℤ opposite output-opposite
+        sample-changed r r (λ j. refl) ws (opposite ws) x (negℤ x) (natAbs-neg x) (over .topSize) (over .size) negℤ opposite
+        (pair-segment r (balanced .even .kind) _ _ (over .topSize)) output-opposite
         (table-same _ (λ j. negℤ (keeps j)) rowLimit (λ j l. kept-opposite j) ∙ table-opposite keeps rowLimit)
 
   -- ---- a run, with any output buffer of the same length
@@ -144,6 +146,7 @@ module _ {r : Record} (sized : Sized r) (balanced : Balanced r) (ws xs os os′ 
       record {
         number = h .number;
         samples = h .samples;
+        segment = h .segment;
         waves = h .waves;
         silence = λ i l. rw (h .outputs i l) (ring (getD out i (pos 0) ∷ []) (var 0 ⊕ ⊖ (var 0)) (con (pos 0)) refl);
       }

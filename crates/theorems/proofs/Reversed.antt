@@ -13,7 +13,7 @@ use lib.IntN.{ℤ, pos, _+ℤ_, negℤ, natAbs, negℤ-negℤ}
 use Rattle.circuit.specs.Numbers.{done}
 use Rattle.circuit.specs.Record.{rowLimit, top, partAt, reversedAt, isLeaf}
 use Rattle.circuit.specs.SetUp.{setUpReport}
-use Rattle.circuit.specs.Curve.{reflected}
+use Rattle.circuit.specs.Curve.{reflected, segment}
 use Rattle.circuit.specs.Sample.{Arithmetic, Rounding, wholeWaves, roundingOf, rounded, up, reach, sends, stores, partSends, partStores, turned, sent, raised, risen, reached, arriving, kept, output, Sampled, refused, finished, storedAt, sampled}
 use Rattle.circuit.specs.Run.{call, ran}
 use Rattle.circuit.specs.Promises.{Runs}
@@ -25,12 +25,13 @@ use Rattle.laws.specs.Accepted.{Sized, Accepted}
 use Rattle.laws.proofs.Accepting.{accepting}
 use Rattle.laws.proofs.Alike.{top-same, ratio-same, waves-same}
 use Rattle.laws.proofs.Counting.{table-same}
+use Rattle.laws.proofs.Segments.{pair-segment}
 use Rattle.theorems.specs.Changed.{changed, Changed, Answers}
 use Rattle.theorems.specs.Opposite.{Even}
 use Rattle.theorems.specs.Reversed.{reverse, reverseAll, Resistors, atTap}
 use Rattle.theorems.proofs.Changed.{either, sample-changed, ran-changed, runs-changed}
 use Rattle.theorems.proofs.Odd.{version-2-odd, pair-odd, Opposites, opposites}
-use Rattle.theorems.proofs.Flipped.{row-at, alike, reflected-same, set-up-flipped}
+use Rattle.theorems.proofs.Flipped.{row-at, alike, reflected-same, segment-same, set-up-flipped}
 
 -- ---- the sample x from the waves ws, with any leaves reversed: a leaf sends what it did
 
@@ -51,7 +52,7 @@ none-turned ρ m m′ a e = ap (turned (wholeWaves ρ) m′) e ∙ none m′ ∙
 
 unchanged : (o : Sampled) → changed (λ v. v) (λ l. l) o ≡ o
 unchanged (refused n) = refl
-unchanged (finished v next) = refl
+unchanged (finished v s next) = refl
 
 module _ {pick : ℕ → Bool} {r : Record} (only : Resistors pick r) (ws : List ℤ) (x : ℤ) where
   abbrev 𝓐 : Arithmetic
@@ -115,7 +116,8 @@ module _ {pick : ℕ → Bool} {r : Record} (only : Resistors pick r) (ws : List
 
   sample-same : sampled s ws x ≡ changed (λ v. v) (λ l. l) (sampled r ws x)
   sample-same =
-      sample-changed r s (alike pick r .part) ws ws x x refl (ap natAbs risen-same) (λ j. ap natAbs (reached-same j)) (λ v. v) (λ l. l) output-same
+      sample-changed r s (alike pick r .part) ws ws x x refl (ap natAbs risen-same) (λ j. ap natAbs (reached-same j)) (λ v. v) (λ l. l)
+      (segment-same pick r _ ∙ ap (segment r) risen-same) output-same
       (table-same _ _ rowLimit (λ j l. kept-same j))
 
   pub resistors-reversed : sampled (reverse pick r) ws x ≡ sampled r ws x
@@ -220,7 +222,8 @@ module _ {r : Record} (even : Even r) (sized : Sized r) (accepted : setUpReport 
 
   pub leaves-reversed : sampled (reverseAll r) ws x ≡ changed (atTap (r .tap)) (λ l. l) (sampled r ws x)
   leaves-reversed =
-      sample-changed r t (alike all r .part) ws ws x x refl (over .topSize) (over .size) (atTap (r .tap)) (λ l. l) output-at-tap
+      sample-changed r t (alike all r .part) ws ws x x refl (over .topSize) (over .size) (atTap (r .tap)) (λ l. l)
+      (segment-same all r _ ∙ pair-segment r (even .kind) _ _ (over .topSize)) output-at-tap
       (table-same _ _ rowLimit (λ j l. kept-as-before j))
 
 -- a run, with any output buffer of the same length; a record that set-up refuses is refused alike

@@ -14,11 +14,12 @@ use lib.Seq.{take-append-seam, drop-append-le, drop-append-add, drop-length}
 use lib.IntN.{ℤ}
 use Rattle.circuit.specs.Numbers.{report, done, judge}
 use Rattle.circuit.specs.SetUp.{setUpReport}
-use Rattle.circuit.specs.Run.{Played, Call, call, reportAfter, worked, ran}
+use Rattle.circuit.specs.Run.{Played, Call, call, noSegment, reportAfter, worked, ran}
 use Rattle.circuit.specs.Take.{outputLength, takeLimit, samplesOf, leftOver, outputBytes, takeOf, freshTake, takeRules, Feeding, feeding, available, leftAfter, taken, nothingTaken, fed, ended}
 use Rattle.circuit.specs.declared.Carried.{Carried}
 use Rattle.circuit.specs.declared.Record.{Record}
-use Rattle.laws.proofs.Playing.{_followedBy_, play-on, play-stop, play-short, play-length}
+use Rattle.laws.proofs.Segments.{last-append}
+use Rattle.laws.proofs.Playing.{_followedBy_, play-on, play-stop, play-short, play-length, play-segments}
 use Rattle.laws.proofs.Running.{report-after, ran-worked}
 use Rattle.laws.proofs.Bytes.{samplesOf-append, leftOver-append, length-leftOver, left-carried, outputBytes-append, samples-number}
 use Rattle.laws.proofs.Judging.{_orElse_, else-next, else-first}
@@ -61,10 +62,10 @@ module _ (r : Record) (c : Carried) (p : TakePiece) (ps : List TakePiece) where
   all-samples = ap samplesOf all-bytes ∙ samplesOf-append (available first) (allBytes ps)
 
   -- the first call done, and then the samples of the others
-  done-call : (x y : Played) → x .number ≡ 0 → length (p .room) ≡ outputLength * length (x .outputs)
+  done-call : (x y : Played) → x .number ≡ 0 → length (p .room) ≡ outputLength * length (x .outputs) → length (y .segments) ≡ length (y .outputs)
       → taken first x ahead lastCall r (taken (others (taken first x .carried)) y) ≡ lastCall r (taken all (x followedBy y))
   unfolding allRoom
-  done-call x y z e =
+  done-call x y z e s =
       let m = length (x .outputs) in
       let n = length (y .outputs) in
       let sum : c .done + (m + n) ≡ c .done + m + n = omega arith in
@@ -75,6 +76,8 @@ module _ (r : Record) (c : Carried) (p : TakePiece) (ps : List TakePiece) where
         left-carried (leftOver (available first)) (length-leftOver (available first)),
         ap leftOver all-bytes ∙ leftOver-append (available first) (allBytes ps),
         length-append (x .outputs) (y .outputs),
+        last-append noSegment (x .segments) (y .segments),
+        s,
         sum,
         bytes,
         drop-append-add (p .room) (allRoom ps) (outputLength * n),
@@ -149,7 +152,7 @@ module _ (r : Record) (c : Carried) (p : TakePiece) (ps : List TakePiece) where
     step rest on off = by (here .number) refl
       where
         by : (n : ℕ) → here .number ≡ n → taken first here ahead rest ≡ lastCall r (taken all (played all))
-        by zero h = rw (on (open-next h) (limit-next h), all-done h) (done-call here (played (others next)) h (filled h))
+        by zero h = rw (on (open-next h) (limit-next h), all-done h) (done-call here (played (others next)) h (filled h) (play-segments r (next .state .waves) (samplesOf (available (others next)))))
         by (suc k) h =
             let m : 0 < here .number = omega arith in
             rw (off (refused-next m), remembered, all-stopped m) (stopped-call here m (omega (arith, short)))

@@ -7,3 +7,4 @@ pub mod Knee
 pub mod Changed
 pub mod Opposite
 pub mod Reversed
+pub mod Light

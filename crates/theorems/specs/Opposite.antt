@@ -48,7 +48,7 @@ pub record Balanced (r : Record) : Type 0 where
 abbrev pub opposite : List ℤ → List ℤ
 opposite = map negℤ
 
--- two runs: the same number, place and samples done; opposite waves, and opposite outputs of the samples done
+-- two runs: the same number, place, samples done and segment; opposite waves, and opposite outputs of the samples done
 abbrev pub Opposed : Ran → Ran → Type 0
 Opposed = Changed negℤ opposite
 
@@ -56,5 +56,6 @@ Opposed = Changed negℤ opposite
 pub record Nulls (p q : Progress) (out inverse : List ℤ) : Type 0 where
   pub number : handed (q .answer) ≡ handed (p .answer)
   pub samples : q .done ≡ p .done
+  pub segment : q .segment ≡ p .segment
   pub waves : q .state .waves ≡ opposite (p .state .waves)
   pub silence : (i : ℕ) → i < p .done → getD out i (pos 0) +ℤ getD inverse i (pos 0) ≡ pos 0

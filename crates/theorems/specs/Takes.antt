@@ -30,17 +30,25 @@ allRoom (p ∷ ps) = p .room ++ allRoom ps
 
 -- ---- a call for each piece
 
--- What the last call and the ending hand back, the samples of all the calls, what is carried at the end, and the rooms of all the calls. Each
--- call is the last one of the pieces up to its own.
+-- What the last call and the ending hand back, the samples of all the calls, the segment of the last call that finished a sample, what is carried
+-- at the end, and the rooms of all the calls. Each call is the last one of the pieces up to its own.
 pub record Outcome : Type 0 where
   pub handedBack : Report
   pub ending : Report
   pub samples : ℕ
+  pub segment : ℕ
   pub carried : Carried
   pub room : List ℕ
 
 abbrev pub lastCall : Record → Fed → Outcome
-lastCall r f = record { handedBack = f .handedBack; ending = ended (takeOf r (f .carried)); samples = f .samples; carried = f .carried; room = f .room }
+lastCall r f = record {
+  handedBack = f .handedBack;
+  ending = ended (takeOf r (f .carried));
+  samples = f .samples;
+  segment = f .segment;
+  carried = f .carried;
+  room = f .room;
+}
 
 infixr 5 _ahead_
 abbrev pub _ahead_ : Fed → Outcome → Outcome
@@ -48,6 +56,7 @@ f ahead rest = record {
   handedBack = rest .handedBack;
   ending = rest .ending;
   samples = f .samples + rest .samples;
+  segment = cond (eqb (rest .samples) 0) (f .segment) (rest .segment);
   carried = rest .carried;
   room = f .room ++ rest .room;
 }
@@ -83,6 +92,7 @@ inOneRun r c bytes room output =
       handedBack = told;
       ending = cond (eqb (length left) 0) told (report 17 (c .done + run .samples));
       samples = run .samples;
+      segment = run .segment;
       carried = record {
         state = record { waves = run .waves };
         left = take leftLimit (left ++ zeros leftLimit);

@@ -17,8 +17,8 @@ use Rattle.whole.specs.Nearness.{near-le}
 use Rattle.circuit.specs.Counting.{within, every, total, one, table}
 use Rattle.circuit.specs.Record.{rowLimit, columnLimit, lastVersion, sourceLimit, top, partAt, isInput, inputs, adaptorsOf}
 use Rattle.circuit.specs.SetUp.{parts, setUpReport}
-use Rattle.circuit.specs.Curve.{waveLimit, reflected}
-use Rattle.circuit.specs.Sample.{Arithmetic, stores, partStores, arriving, kept, output, rounded, inLimit, storedAt, sampled}
+use Rattle.circuit.specs.Curve.{waveLimit, reflected, segment}
+use Rattle.circuit.specs.Sample.{Arithmetic, stores, partStores, risen, arriving, kept, output, rounded, inLimit, storedAt, sampled}
 use Rattle.circuit.specs.Run.{freshWaves}
 use Rattle.circuit.specs.declared.Join.the-variants.{Parallel}
 use Rattle.circuit.specs.declared.CurveKind.the-variants.{Pair}
@@ -155,6 +155,7 @@ module _ (version n : ℕ) (most : n ≤ adaptorLimit) (e : strays version n ≡
         adaptors = eqb-true (adaptorsOf c) n (adaptors .0);
         sample = x n;
         out = out version n;
+        segment = segment c (risen (rounded c) c (storedAt freshWaves) (x n));
         next = table (left version n) rowLimit;
         works = rw (source .0, limit .0) refl;
         output = far-beyond (leastLimit n) (out version n) (exactOutput c freshWaves (x n)) (far .0);

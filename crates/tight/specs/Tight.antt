@@ -28,8 +28,9 @@ pub record Strays (version n : ℕ) : Type 0 where
   pub adaptors : adaptorsOf circuit ≡ n
   pub sample : ℤ
   pub out : ℤ
+  pub segment : ℕ
   pub next : List ℤ
-  pub works : sampled circuit freshWaves sample ≡ finished out next
+  pub works : sampled circuit freshWaves sample ≡ finished out segment next
   pub output : Beyond (leastLimit n) out (exactOutput circuit freshWaves sample)
   pub row : ℕ
   pub stored : 0 < n → Beyond (leastLimit n) (storedAt next row) (exactKept circuit freshWaves sample row)

@@ -5,7 +5,9 @@ use native.Mathlib.Omega.{arith}
 use borrow.Author.Tests.{eq-eqb, ne-eqb}
 use borrow.Rule.Slice.PartMut.{midOf, putMid}
 use mathlib.Core.Path.{_≡_, refl, sym, ap, ap₂, _∙_}
+use mathlib.Core.Bool.{cond}
 use mathlib.Core.List.{List, _++_, append-nil}
+use lib.Dec.{eqb}
 use lib.ListN.{length, take, drop, length-drop, take-append-drop, drop-of-length-le}
 use lib.Seq.{length-take-le, take-all, take-at, drop-at}
 use lib.IntN.{ℤ}
@@ -99,6 +101,7 @@ module _ {r : Record} {ws xs os : List ℤ} {at : ℕ} {p : Progress} {o : List 
     one-refused = record {
       number = first .runs .number ∙ sym (ap (λ (s : Ran). s .handedBack) left-off);
       samples = first .runs .samples ∙ sym (ap (λ (s : Ran). s .samples) left-off);
+      segment = first .runs .segment ∙ sym (ap (λ (s : Ran). s .segment) left-off);
       waves = first .runs .waves ∙ sym (ap (λ (s : Ran). s .waves) left-off);
       output = ap (λ (l : List ℤ). l ++ drop at os) (first .runs .output) ∙ sym (ap (λ (s : Ran). s .output) left-off);
     }
@@ -118,6 +121,9 @@ module _ {r : Record} {ws xs os : List ℤ} {at : ℕ} {p : Progress} {o : List 
     counted : ran whole .samples ≡ p .done + q .done
     counted = ap (λ (s : Ran). s .samples) went-on ∙ rw (first .runs .samples, second .samples) refl
 
+    lit : ran whole .segment ≡ cond (eqb (q .done) 0) (p .segment) (q .segment)
+    lit = ap (λ (s : Ran). s .segment) went-on ∙ rw (second .samples, first .runs .segment, second .segment) refl
+
     judged : judge runRules whole .number ≡ 0
     judged =
         let h = zero-allowed front (ran-judged front front-done) in
@@ -129,10 +135,12 @@ module _ {r : Record} {ws xs os : List ℤ} {at : ℕ} {p : Progress} {o : List 
     pub done-inside : p .done + q .done ≤ length xs
     done-inside = rw (← counted) (ran-short whole judged)
 
-    pub both-done : (a : Answer) → handed a ≡ later (p .done) (handed (q .answer)) → Runs whole (record { answer = a; done = p .done + q .done; state = q .state }) (o ++ o₂)
-    both-done a e = record {
+    pub both-done : (a : Answer) → handed a ≡ later (p .done) (handed (q .answer)) → (s : ℕ) → s ≡ cond (eqb (q .done) 0) (p .segment) (q .segment)
+        → Runs whole (record { answer = a; done = p .done + q .done; segment = s; state = q .state }) (o ++ o₂)
+    both-done a e s f = record {
       number = e ∙ sym told;
       samples = sym counted;
+      segment = f ∙ sym lit;
       waves = second .waves ∙ sym (ap (λ (s : Ran). s .waves) went-on);
       output = ap₂ (λ (x y : List ℤ). x ++ y) (first .runs .output) (second .output) ∙ sym (ap (λ (s : Ran). s .output) went-on);
     }

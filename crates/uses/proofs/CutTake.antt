@@ -4,7 +4,7 @@ use Prim.Native.Nat.{ℕ, zero, suc, _+_, _*_, _/_, _<_, _≤_}
 use native.Mathlib.Omega.{arith}
 use borrow.Author.Tests.{leb-true, eqb-true, not-false}
 use mathlib.Core.Path.{_≡_, refl, sym, ap, ap₂, _∙_}
-use mathlib.Core.Bool.{Bool, false, not, and-eq-true-iff}
+use mathlib.Core.Bool.{Bool, false, not, cond, and-eq-true-iff}
 use mathlib.Core.List.{List, [], _∷_, _++_, append-assoc, append-nil}
 use lib.Dec.{eqb, leb}
 use lib.ListN.{length, take, drop, length-append, length-drop, take-append-drop}
@@ -121,10 +121,12 @@ module _ (r : Record) {c : Carried} {s o : List ℕ} {at : ℕ} (h : Cuttable c 
     pub done-inside : p .done + q .done ≤ takeLimit
     done-inside = rw (← counted) (omega (arith, whole-short, many s, h .limit))
 
-    pub both-done : Feeds whole (record { answer = q .answer; done = p .done + q .done; carried = q .carried }) (after ++ after₂)
-    both-done = record {
+    pub both-done : (n : ℕ) → n ≡ cond (eqb (q .done) 0) (p .segment) (q .segment)
+        → Feeds whole (record { answer = q .answer; done = p .done + q .done; segment = n; carried = q .carried }) (after ++ after₂)
+    both-done n e = record {
       number = second .number ∙ sym (ap (λ (x : Outcome). x .handedBack) both);
       samples = sym counted;
+      segment = e ∙ sym (ap (λ (x : Outcome). x .segment) both ∙ rw (second .samples, first .segment, second .segment) refl);
       carried = second .carried ∙ sym (ap (λ (x : Outcome). x .carried) both);
       room = ap₂ (λ (x y : List ℕ). x ++ y) (first .room) (second .room) ∙ sym (ap (λ (x : Outcome). x .room) both);
     }

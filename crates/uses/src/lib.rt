@@ -14,7 +14,9 @@ use circuit::SAMPLE_LENGTH;
 use circuit::State;
 use circuit::TAKE_LIMIT;
 ghost use mathlib.Core.Path.{_≡_};
+ghost use mathlib.Core.Bool.{cond};
 ghost use Prim.Native.Nat.{_<_, _^_};
+ghost use lib.Dec.{eqb};
 ghost use lib.ListN.{length};
 ghost use Rattle.circuit.specs.Numbers.{handed};
 ghost use Rattle.circuit.specs.File.{fileLength, zeros};
@@ -67,6 +69,13 @@ fn later(at: usize, answer: Answer) -> Answer
     }
 }
 
+// The segment of two calls: of the later, unless it finished no sample.
+fn last_segment(first: u8, done: usize, second: u8) -> u8
+    ensures { λ s. ⌜ s ≡ cond (eqb done 0) first second ⌝ }
+{
+    if done == 0 { first } else { second }
+}
+
 // Cutting a run changes nothing: a run in two calls, cut at sample `at`, promises what one call does. Lengths that differ, and a cut past the
 // input, are one call.
 pub fn run_in_two(r: Record, state: State, input: &[i32], output: &mut [i32], at: usize) -> Progress
@@ -82,13 +91,15 @@ pub fn run_in_two(r: Record, state: State, input: &[i32], output: &mut [i32], at
     }
     let between = first.state;
     let second = engine::run(r, between, &input[at..], &mut output[at..]);
-    let done = first.done;
     let told = second.answer;
-    let answer = later(done, told);
+    let answer = later(first.done, told);
+    let done = first.done + second.done;
+    let segment = last_segment(first.segment, second.done, second.segment);
     let state = second.state;
     Progress {
         answer,
-        done: done + second.done,
+        done,
+        segment,
         state,
     }
 }
@@ -123,9 +134,11 @@ pub fn feed_in_two(r: Record, carried: Carried, bytes: &[u8], out: &mut [u8], at
     let answer = second.answer;
     let carried = second.carried;
     let done = first.done + second.done;
+    let segment = last_segment(first.segment, second.done, second.segment);
     Feed {
         answer,
         done,
+        segment,
         carried,
     }
 }

@@ -6,7 +6,7 @@ use lib.Dec.{lit<}
 use borrow.Author.Needs.{needs}
 use borrow.Author.Tests.{ne-eqb}
 use Rattle.circuit.specs.Numbers.{handed, rule, judge, unless}
-use Rattle.circuit.specs.Run.{Call, charged, lengthsRule, runRules, ran, turnedAway, call}
+use Rattle.circuit.specs.Run.{Call, charged, lengthsRule, runRules, noSegment, ran, turnedAway, call}
 use Rattle.circuit.specs.Promises.{Charges, Runs}
 use Rattle.circuit.specs.declared.Answer.{Answer}
 use Rattle.circuit.specs.declared.Answer.the-variants.{Lengths}
@@ -55,11 +55,11 @@ judged c =
     charges-of (record-back (sized (given .args .r) _ (given .good .0)) (sheet .lay .ensures)) (c .check .ensures)
 
 -- what is handed back of a call that is refused before its first sample
-away : (k : Call) (a : Answer) (s : State) {p : Progress} → p ≡ record { answer = a; done = 0; state = s } → s .waves ≡ k .waves
+away : (k : Call) (a : Answer) (s : State) {p : Progress} → p ≡ record { answer = a; done = 0; segment = noSegment; state = s } → s .waves ≡ k .waves
     → handed a ≡ judge runRules k → 0 < handed a .number → Runs k p (k .output)
 away k a s told same j l =
     let e : ran k ≡ turnedAway k (judge runRules k) = ran-refused k (rw j at l) in
-    record { number = rw (told, e) j; samples = rw (told, e) refl; waves = rw (told, e) same; output = rw e refl }
+    record { number = rw (told, e) j; samples = rw (told, e) refl; segment = rw (told, e) refl; waves = rw (told, e) same; output = rw e refl }
 
 returns : tie.Need-returns
 returns c =

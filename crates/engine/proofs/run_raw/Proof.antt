@@ -56,7 +56,7 @@ returns c =
     let told = c .turned-away .ensures in
     let e : ranRaw k ≡ rawTurnedAway k (judge chargedRules (rawCharged k)) =
     ran-raw-refused k (refusing h (c .before .before .number .ensures) (c .before .if1 .taken)) in
-    record { number = rw (told, e) (h .number); samples = rw (told, e) refl; waves = rw (told, e) refl; room = rw e refl }
+    record { number = rw (told, e) (h .number); samples = rw (told, e) refl; segment = rw (told, e) refl; waves = rw (told, e) refl; room = rw e refl }
 
 play-raw-requires : tie.Need-play-raw-requires
 play-raw-requires c κs =

@@ -53,7 +53,7 @@ unfolding handed
 returns c =
     let rest = c .before in
     let at = rest .before .before in
-    feeds _ _ _ _ (fed-played (ran (run at)) 0 (number at ∙ rest .before .if1 .taken) (inl refl)) refl refl
+    feeds _ _ _ _ (fed-played (ran (run at)) 0 (number at ∙ rest .before .if1 .taken) (inl refl)) refl refl refl
     (rw (rest .left-after .ensures .0, rest .left-after .ensures .1)) refl
 
 returns-2 : tie.Need-returns-2
@@ -61,7 +61,7 @@ unfolding handed
 returns-2 c =
     let rest = c .before in
     let at = rest .before .before .before in
-    feeds _ _ _ _ (fed-played (ran (run at)) 15 (number at ∙ rest .before .if2 .taken) (inr refl)) refl refl
+    feeds _ _ _ _ (fed-played (ran (run at)) 15 (number at ∙ rest .before .if2 .taken) (inr refl)) refl refl refl
     (rw (rest .left-after2 .ensures .0, rest .left-after2 .ensures .1)) refl
 
 returns-3 : tie.Need-returns-3

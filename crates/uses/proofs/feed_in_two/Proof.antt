@@ -96,11 +96,12 @@ add-done c = let k = once (both c) in omega (arith, done-inside _ (told (cut k))
 
 returns-2 : tie.Need-returns-2
 returns-2 c =
-    let k = once (both c) in
+    let all = both (c .before) in
+    let k = once all in
     let a = start (cut k) .args in
     subst (Feeds (feeding (a .r) (a .carried) (a .bytes .now) (a .out .now)) _)
-    (sym (put-after (at-room k) (left k) (others k) (filled k) (left-after (both c))))
-    (both-done _ (told (cut k)) (k .feed2 .ensures) (second (both c)))
+    (sym (put-after (at-room k) (left k) (others k) (filled k) (left-after all)))
+    (both-done _ (told (cut k)) (k .feed2 .ensures) (second all) _ (c .last-segment .ensures))
 
 pub feed-in-two-spec : {M : Type 1} → statement M
 feed-in-two-spec =
@@ -125,5 +126,6 @@ feed-in-two-spec =
     (λ c. search needs)
     (λ c κs. search needs)
     add-done
+    (λ c κs. search needs)
     (λ c. search needs)
     returns-2)

@@ -102,14 +102,20 @@ second c =
     (ap₂ (call (a .r) (k .run2 .result .state .waves)) (rest (a .at) (a .input .now)) (rest-after (a .at) (left k) (drop (a .at) (a .output .now)) (filled (done c))))
     (c .before .run3 .ensures)
 
+-- where the answer of both is known
+abbrev answered : tie.After-struct-known2 → tie.After-later
+answered c = c .before .before
+
 returns-3 : tie.Need-returns-3
 returns-3 c =
-    let s = c .before .before .before in
+    let lit = c .before in
+    let told-both = answered (lit .before) in
+    let s = told-both .before in
     let k = called (done s) in
     let a = cut k .before .args in
     subst (Runs (call (a .r) (a .state .waves) (a .input .now) (a .output .now)) _)
     (sym (put-after (a .at) (left k) (drop (a .at) (a .output .now)) (filled (done s)) (left-after s)))
-    (both-done (first k) (finished (done s)) (second s) _ (c .before .before .later .ensures))
+    (both-done (first k) (finished (done s)) (second s) _ (told-both .later .ensures) _ (lit .last-segment .ensures))
 
 -- ---- neither sum is past the input
 
@@ -118,9 +124,9 @@ later-requires c κs =
     let k = called (done c) in
     omega (arith, place-inside (first k) (finished (done c)) (second c), cut k .before .good .1 .1 .0)
 
-add-t14 : tie.Need-add-t14
-add-t14 c =
-    let s = c .before .before .before in
+add-done : tie.Need-add-done
+add-done c =
+    let s = answered c .before in
     let k = called (done s) in
     omega (arith, done-inside (first k) (finished (done s)) (second s), cut k .before .good .1 .1 .0)
 
@@ -148,6 +154,7 @@ run-in-two-spec =
     (λ c. search needs)
     (λ c κs. search needs)
     later-requires
-    add-t14
+    add-done
+    (λ c κs. search needs)
     (λ c. search needs)
     returns-3)

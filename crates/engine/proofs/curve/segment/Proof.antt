@@ -62,11 +62,10 @@ module _ (c : tie.After-if12 Inv-loop μ-loop) where
 
   -- a number between its two edges is the answer
   found : (n : ℕ) → n ≤ start .args .width → Behind lines wave n → wave <ℤ edge n
-      → (r : Record) → Drawing r (start .args .width) lines → (n ≤ r .width) × (n ≡ passed r (whole (start .args .wave)))
+      → (r : Record) → Drawing r (start .args .width) lines → n ≡ passed r (whole (start .args .wave))
   found n most left right r d =
       let w = start .pre .1 in
-      let within : n ≤ r .width = omega (arith, d .many) in
-      (within, passed-count d w n within (rw (limit-reads w) at left) (rw (limit-reads w) at right))
+      passed-count d w n (omega (arith, d .many)) (rw (limit-reads w) at left) (rw (limit-reads w) at right)
 
 behind : (c : tie.Then1 Inv-loop μ-loop) → edge (c .before) (middle (c .before)) ≤ℤ wave (c .before)
 behind c = leZ-true _ _ (rw (edge-reads (c .before)) at (c .if1 .taken))

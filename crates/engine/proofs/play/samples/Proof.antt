@@ -16,11 +16,11 @@ use Rattle.engine.proofs.play.samples.Statement.{statement}
 use Rattle.engine.proofs.play.samples.Tie as tie
 
 abbrev Inv-loop : tie.InvT-loop
-Inv-loop shape joins firsts seconds ratios turns lines up₀ input output₀ down₀ i₀ up output down i =
-    Going (λ vs. vs) (planOf shape (jointsOf joins firsts seconds ratios) turns lines) up₀ input output₀ up down output i
+Inv-loop shape joins firsts seconds ratios turns lines up₀ input output₀ down₀ i₀ segment₀ up output down i segment =
+    Going (λ vs. vs) (planOf shape (jointsOf joins firsts seconds ratios) turns lines) up₀ input output₀ up down output i segment
 
 abbrev μ-loop : tie.MeasureT-loop
-μ-loop shape joins firsts seconds ratios turns lines up₀ input output₀ down₀ i₀ up output down i = length input - i
+μ-loop shape joins firsts seconds ratios turns lines up₀ input output₀ down₀ i₀ segment₀ up output down i segment = length input - i
 
 loop-holds : tie.Need-loop-holds Inv-loop μ-loop
 unfolding freshWaves

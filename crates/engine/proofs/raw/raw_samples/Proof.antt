@@ -21,11 +21,11 @@ use Rattle.engine.proofs.raw.raw_samples.Statement.{statement}
 use Rattle.engine.proofs.raw.raw_samples.Tie as tie
 
 abbrev Inv-loop : tie.InvT-loop
-Inv-loop shape joins firsts seconds ratios turns lines up₀ left more out₀ count down₀ i₀ up out down i =
-    Going outputBytes (planOf shape (jointsOf joins firsts seconds ratios) turns lines) up₀ (fitting (left ++ more) out₀) out₀ up down out i
+Inv-loop shape joins firsts seconds ratios turns lines up₀ left more out₀ count down₀ i₀ segment₀ up out down i segment =
+    Going outputBytes (planOf shape (jointsOf joins firsts seconds ratios) turns lines) up₀ (fitting (left ++ more) out₀) out₀ up down out i segment
 
 abbrev μ-loop : tie.MeasureT-loop
-μ-loop shape joins firsts seconds ratios turns lines up₀ left more out₀ count down₀ i₀ up out down i = count - i
+μ-loop shape joins firsts seconds ratios turns lines up₀ left more out₀ count down₀ i₀ segment₀ up out down i segment = count - i
 
 -- a slice has fewer bytes than 2^63
 sized : (c : tie.Start Inv-loop μ-loop) → length (c .args .out .now) * 1 < 2 ^ 63

@@ -1,7 +1,8 @@
 -- `sample` meets its contract. Each way out is one of the definition's outcomes, for every circuit that the plan is laid out for; the calls ask what
 -- holds for the one that is known to be there.
-use Prim.Native.Nat.{_+_}
-use mathlib.Core.Path.{_≡_, _∙_}
+use Prim.Native.Nat.{_+_, _<_}
+use native.Mathlib.Omega.{arith}
+use mathlib.Core.Path.{_≡_, ap, _∙_}
 use mathlib.Core.Bool.{Bool, true, false, not}
 use mathlib.Core.List.{List}
 use borrow.Author.Needs.{needs}
@@ -12,13 +13,14 @@ use mir.Val.{SFits, toZ, ofZ}
 use mir.Facts.{toZ-ofZ}
 use Rattle.whole.specs.Signed.{zfits, returned, widened, wide-same}
 use Rattle.circuit.specs.Counting.{within}
-use Rattle.circuit.specs.Record.{sourceLimit}
-use Rattle.circuit.specs.Curve.{waveLimit, reflected}
+use Rattle.circuit.specs.Record.{rowLimit, sourceLimit}
+use Rattle.circuit.specs.Curve.{waveLimit, segment}
 use Rattle.circuit.specs.Sample.{storedAt}
 use Rattle.circuit.specs.declared.Record.{Record}
+use Rattle.engine.specs.Curve.{Reflects}
 use Rattle.engine.specs.Plan.{floor, jointsOf, planOf, Plan}
 use Rattle.engine.specs.Sample.{turnedBy, Fixed, Loaded, LaidOut, Works}
-use Rattle.engine.proofs.Limits.{within-abs}
+use Rattle.engine.proofs.Limits.{within-abs, limit-reads}
 use Rattle.engine.proofs.Sampling.{Raised, Landed}
 use Rattle.engine.proofs.Sampling as Sampling
 use Rattle.engine.proofs.Finishing as Finishing
@@ -130,21 +132,27 @@ module _ (c : tie.After-reflect) where
   abbrev risen : tie.After-sweep-up
   risen = at-up (c .before)
 
-  answered : (k : Laid (first risen)) → c .reflect .result .0 ≡ reflected (k .circuit) (wave risen)
+  answered : (k : Laid (first risen)) → Reflects (k .circuit) (wave risen) (c .reflect .result)
   answered k =
       rw (toZ-ofZ (mirror-fits (c .before)), toZ-ofZ (wave-fits (c .before .before .before .before))) at (c .reflect .ensures)
       (k .circuit) (k .fixed .drawn) (k .fixed .mirror)
 
+  -- it is no larger than the wave
+  answer-reads : toZ w64 (ofZ w64 (c .reflect .result .wave .0)) ≡ c .reflect .result .wave .0
+  answer-reads =
+      let k = first risen .pre in
+      limit-reads (Sampling.answer-range k _ (raised risen k) (calm (c .before)) (answered k .wave))
+
 -- ---- down
 
-answer-fits : (c : tie.After-struct-told2) → SFits w64 (c .before .reflect .result .0)
-answer-fits c = record { sfits = c .struct-told2 .given .0 .1 }
+top-inside : (c : tie.After-reflect) → floor + first (risen c) .args .shape .adaptors < rowLimit
+top-inside c = let k = first (risen c) .pre in omega (arith, k .fixed .adaptors, k .fixed .slotted .few)
 
 sweep-down-requires : tie.Need-sweep-down-requires
 sweep-down-requires c κs =
     let at = c .before .before .before in
     let k = first (risen at) .pre in
-    rw (toZ-ofZ (answer-fits (c .before .before))) (Sampling.drops k _ (raised (risen at) k) (calm (at .before)) (answered at k))
+    rw (answer-reads at) (Sampling.drops k _ (raised (risen at) k) (calm (at .before)) (answered at k .wave))
 
 module _ (c : tie.After-sweep-down) where
   abbrev at-diode : tie.After-reflect
@@ -157,9 +165,9 @@ module _ (c : tie.After-sweep-down) where
       → Landed (plan begun) (k .circuit) (k .stored) (begun .args .x) (above (risen at-diode)) (c .sweep-down .last .1 .1 .1 .1 .1 .1 .1 .0)
   landed k =
       let h = raised (risen at-diode) k in
-      let down = rw (toZ-ofZ (answer-fits (c .before .before .before))) at (c .sweep-down .ensures) in
+      let down = rw (answer-reads at-diode) at (c .sweep-down .ensures) in
       let limit = calm (at-diode .before) in
-      let answer = answered at-diode k in
+      let answer = answered at-diode k .wave in
       Sampling.landed k _ h limit answer (down (Sampling.drops k _ h limit answer))
 
 settle-requires : tie.Need-settle-requires
@@ -169,7 +177,10 @@ returns-3 : tie.Need-returns-3
 returns-3 c =
     let at = c .before .before .before in
     record {
-      works = λ r ws f l. Finishing.works (landed at (any (begun at) f l)) (c .settle .result) _ (c .settle .ensures);
+      works = λ r ws f l.
+          let k = any (begun at) f l in
+          let risen = Sampling.top-wave k _ (raised (risen (at-diode at)) k) in
+          Finishing.works (landed at k) (answered (at-diode at) k .segment ∙ ap (segment r) risen) (c .settle .result) _ (c .settle .ensures);
       room = landed at (begun at .pre) .modest;
     }
 
@@ -190,9 +201,9 @@ sample-spec =
     (λ c κs. search needs)
     returns-2
     reflect-requires
-    (λ c. search needs)
-    (λ c. search needs)
-    (λ c. search needs)
+    (λ c. omega (arith, top-inside (c .before)))
+    (λ c. omega (arith, top-inside (c .before)))
+    (λ c. omega (arith, top-inside (c .before)))
     sweep-down-requires
     settle-requires
     returns-3)

@@ -59,6 +59,7 @@ returns-2 c =
       calm (at-else read),
       rw (toZ-ofZ (meter-fits (at-tapped .before))) at (at-tapped .tapped .ensures)
           ∙ ap₂ (λ y z. turnedBy meter (y +ℤ z)) (at-sent read .wave-at .ensures) (read .wave-at2 .ensures),
+      refl,
       c .store .ensures,
     )
 
