@@ -1,5 +1,4 @@
 // Segments: at the own x of a column and just before it, of the last of two samples, where no sample is finished, and of calls of a take.
-ghost use Prim.Native.Nat.{_≤_};
 use crate::labels;
 use crate::make;
 use crate::make::case_1;
@@ -42,8 +41,10 @@ fn last(mut t: Tally) -> Tally {
 // At the large inductor's leaf a wave is past its limit, after the diode has answered.
 fn nothing(mut t: Tally) -> Tally {
     let r = case_1();
-    t = run_shown(t, none(r, 0), NO_SEGMENT);
-    t = run_shown(t, none(r, 1), NO_SEGMENT);
+    let mut no_room = [BEFORE; 0];
+    t = run_shown(t, none(r, &mut no_room), NO_SEGMENT);
+    let mut out = [BEFORE];
+    t = run_shown(t, none(r, &mut out), NO_SEGMENT);
     t = run_shown(t, one(r, 1, 4000), NO_SEGMENT);
     t = run_shown(t, one(make::with_rate(r, 7999), 0, 4000), NO_SEGMENT);
     run_shown(
@@ -66,12 +67,8 @@ fn two(r: Record, x: i32, y: i32) -> Progress {
     engine::run(r, setup::fresh(), &input, &mut out)
 }
 
-// No sample, and room for this many outputs.
-fn none(r: Record, room: usize) -> Progress
-    requires { ⌜ room ≤ 1 ⌝ }
-{
-    let mut out = [BEFORE];
-    engine::run(r, setup::fresh(), &[], &mut out[..room])
+fn none(r: Record, out: &mut [i32]) -> Progress {
+    engine::run(r, setup::fresh(), &[], out)
 }
 
 fn run_shown(t: Tally, run: Progress, wanted: u8) -> Tally {
@@ -88,22 +85,17 @@ fn segment_shown(t: Tally, answer: Answer, segment: u8, wanted: u8) -> Tally {
 
 // A sample of 4000 in three bytes, two of them, and the three with no room.
 fn calls(mut t: Tally) -> Tally {
-    t = call(t, 3, 4, 3);
-    t = call(t, 2, 0, NO_SEGMENT);
-    call(t, 3, 0, NO_SEGMENT)
+    let sample = [160u8, 15, 0];
+    let two = [160u8, 15];
+    let mut room = [0u8; 4];
+    let mut no_room = [0u8; 0];
+    t = call(t, &sample, &mut room, 3);
+    t = call(t, &two, &mut no_room, NO_SEGMENT);
+    call(t, &sample, &mut no_room, NO_SEGMENT)
 }
 
-fn call(t: Tally, bytes: usize, out: usize, wanted: u8) -> Tally
-    requires { ⌜ (bytes ≤ 3) × (out ≤ 4) ⌝ }
-{
-    let sample = [160u8, 15, 0];
-    let mut room = [0u8; 4];
-    let feed = takes::feed(
-        case_1(),
-        takes::start(),
-        &sample[..bytes],
-        &mut room[..out],
-    );
+fn call(t: Tally, bytes: &[u8], room: &mut [u8], wanted: u8) -> Tally {
+    let feed = takes::feed(case_1(), takes::start(), bytes, room);
     let answer = feed.answer;
     segment_shown(t, answer, feed.segment, wanted)
 }

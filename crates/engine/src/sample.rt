@@ -115,7 +115,13 @@ pub(crate) enum Outcome {
 }
 
 // The end of a sample. Rule 15 at the leaves comes before anything is stored, and the tap reads what its row has sent, not what it sends next.
-fn settle(shape: Shape, turns: &[i64; ROWS], segment: u8, up: &mut [i64; ROWS], down: &[i64; ROWS]) -> Outcome
+fn settle(
+    shape: Shape,
+    turns: &[i64; ROWS],
+    segment: u8,
+    up: &mut [i64; ROWS],
+    down: &[i64; ROWS],
+) -> Outcome
     requires { ⌜ Settles shape (now turns) (now up) (now down) ⌝ }
     ensures { λ o. ⌜ Settled shape (now (turns .entry)) segment (now (up .entry)) (now (down .entry)) o (now (up .exit)) ⌝ }
 {
