@@ -1,10 +1,10 @@
 #!/usr/bin/env python3
-# Draws six pictures of this folder: tree.svg, curve.svg, ends.svg, flow.svg, bound.svg, reversed.svg. From the repository's root:
+# Draws seven pictures of this folder: tree.svg, curve.svg, ends.svg, flow.svg, bound.svg, reversed.svg, light.svg. From the repository's root:
 #
 #     python3 docs/pictures/draw.py
 #
-# Each run writes the same bytes. Nothing but Python's standard library is needed. The waves in tree.svg, bound.svg and reversed.svg and the lines in
-# curve.svg and ends.svg are worked out here, by the rules of one sample and of the curve.
+# Each run writes the same bytes. Nothing but Python's standard library is needed. The waves in tree.svg, bound.svg, reversed.svg and light.svg and the
+# lines in curve.svg and ends.svg are worked out here, by the rules of one sample and of the curve.
 import math
 import os
 import textwrap
@@ -500,6 +500,79 @@ def turned_round():
     p.save()
 
 
+# ---- light.svg: the segments of a single and of a pair, and what a light shows of a take
+
+SHADES = ["#c9c9c9", "#8fc1d0", "#e0a33a", "#b5462f"]
+
+
+def segment(kind, columns, x):
+    """How many columns have an x that is not above the wave, of a pair its magnitude."""
+    return sum(c <= (abs(x) if kind == "pair" else x) for c, _ in columns)
+
+
+def light():
+    p = Picture(
+        "light.svg", 1030, 470, "Segments of a curve, and what the light shows",
+        [
+            "On the left a single's curve with three columns: segment 0 is left of its first column, and each column begins the next. In the",
+            "middle a pair, whose segments are counted by the wave's magnitude. On the right the waves that 24 samples send to that pair's",
+            "diode, in three calls of eight: each call tells the segment of its last sample.",
+        ])
+    y, side = 76, Plot.side
+
+    def draw(x, title, kind, columns):
+        p.text(x - 48, 30, title, size=15, bold=True)
+        p.text(x - 48, 52, kind + " " + " ".join(f"({num(a)}, {num(b)})" for a, b in columns), ink=GREY)
+        plot = Plot(p, x, y)
+        inner = [a for a, _ in columns] if kind == "single" else sorted({s * a for a, _ in columns for s in (1, -1)} - {0})
+        edges = [-plot.reach, *inner, plot.reach]
+        for a, b in zip(edges, edges[1:]):
+            n = segment(kind, columns, (a + b) / 2)
+            (u, v), (w, _) = plot.on(a, plot.reach), plot.on(b, plot.reach)
+            p.rect(u, v - 18, w - u, 18, ink="white", fill=SHADES[n], rx=0)
+            p.text((u + w) / 2, v - 5, str(n), "middle", 12, INK, bold=True)
+            if b < plot.reach:
+                plot.line([(b, plot.reach), (b, -plot.reach)], ink=GREY, width=1, dash="3 3")
+        if kind == "pair":
+            plot.pair(columns)
+        else:
+            plot.ends(columns, [1, -1])
+
+    def below(x, words, wide=47):
+        for i, line in enumerate(textwrap.wrap(words, wide)):
+            p.text(x - 48, y + 312 + 18 * i, line, size=12)
+
+    draw(70, "A single", "single", [(-2000, 1000), (0, 0), (1000, 500)])
+    below(70, "The number of columns whose x is not above the wave. It is 0 only left of a single's first column, and never falls as the wave rises.")
+    draw(412, "A pair", "pair", CURVE_K)
+    below(412, "The same of the wave's magnitude. It never falls as the magnitude rises. A wave at a column's own x has passed it.")
+
+    # a take whose amplitude falls, at the pair's diode
+    x, calls, long = 754, 3, 8
+    p.text(x - 48, 30, "The light, call by call", size=15, bold=True)
+    p.text(x - 48, 52, "24 waves at the pair's diode, in calls of eight", ink=GREY)
+    waves = [round(3600 * math.exp(-i / 9) * math.cos(0.5 + 0.9 * i)) for i in range(calls * long)]
+    p.rect(x, y, side, side, rx=0, fill="white")
+    across = lambda i: x + side * (i + 0.5) / len(waves)
+    up = lambda v: y + side * (Plot.reach - v) / (2 * Plot.reach)
+    for level in (-2000, -1000, 0, 1000, 2000):
+        p.run([(x, up(level)), (x + side, up(level))], ink="#aaa", width=1, dash="" if level == 0 else "3 3")
+        p.text(x - 9, up(level) + 4, num(level), "end", 11, GREY)
+    for i, v in enumerate(waves):
+        n = segment("pair", CURVE_K, v)
+        p.run([(across(i), up(0)), (across(i), up(v))], ink=SHADES[n], width=4)
+        p.circle(across(i), up(v), 3.5, ink=SHADES[n], fill=SHADES[n])
+    for c in range(calls):
+        a, b = x + side * c / calls, x + side * (c + 1) / calls
+        last = segment("pair", CURVE_K, waves[(c + 1) * long - 1])
+        p.run([(a + 3, y + side + 8), (b - 3, y + side + 8)], ink=GREY, width=1)
+        p.circle((a + b) / 2, y + side + 27, 11, ink=GREY, fill=SHADES[last])
+        p.text((a + b) / 2, y + side + 31, str(last), "middle", 12, INK, bold=True)
+    below(x, "Each call tells the segment of its last finished sample, and 255 where it has finished none. "
+          "Where the calls are cut makes no difference to the last light of a take.", 46)
+    p.save()
+
+
 if __name__ == "__main__":
     tree()
     curve()
@@ -507,3 +580,4 @@ if __name__ == "__main__":
     flow()
     bound()
     turned_round()
+    light()

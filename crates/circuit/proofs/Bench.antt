@@ -48,12 +48,15 @@ plainly outputs stored = plays done (length outputs) outputs stored
 answered : Record → List ℤ → Found
 answered r waves = answers (map (reflected r) waves)
 
--- the segments of waves, and of runs
+-- the segments of waves, and the one that a run tells
 lit : Record → List ℤ → Found
 lit r waves = lights (map (segment r) waves)
 
-shown : List Ran → Found
-shown runs = lights (map (λ (p : Ran). p .segment) runs)
+shown : Ran → Found
+shown p = lights (p .segment ∷ [])
+
+light : ℕ → Found
+light n = lights (n ∷ [])
 
 -- the unrounded output for a sample from a fresh state is n / d
 unroundedIs : Record → ℤ → ℤ → ℕ → Found
@@ -175,6 +178,10 @@ reversals-told = ap₂ _∷_ refl refl
 
 -- ---- request 7: the segments of waves, and the segment of a run's last finished sample
 
+-- a single with columns at −9, −6 and 0
+leftward : Record
+leftward = curved Single (column (minus 9) (pos 2) ∷ column (minus 6) (pos 4) ∷ column (pos 0) (pos 0) ∷ [])
+
 -- curve K has its columns at 0, 1000 and 2000, and case 1 sends three quarters of a sample to the diode
 segments : List Line
 segments =
@@ -182,18 +189,25 @@ segments =
     case 0 (lit case1 (pos 0 ∷ pos 999 ∷ pos 1000 ∷ pos 1999 ∷ pos 2000 ∷ pos 67108864 ∷ [])) (lights (1 ∷ 1 ∷ 2 ∷ 2 ∷ 3 ∷ 3 ∷ []))
     ∷ case 0 (lit case1 (minus 1 ∷ minus 999 ∷ minus 1000 ∷ minus 1999 ∷ minus 2000 ∷ [])) (lights (1 ∷ 1 ∷ 2 ∷ 2 ∷ 3 ∷ []))
     -- 0 left of a single's first column
-    ∷ case 0 (lit (curved Single (column (minus 9) (pos 2) ∷ column (minus 6) (pos 4) ∷ column (pos 0) (pos 0) ∷ [])) (minus 10 ∷ minus 9 ∷ minus 7 ∷ minus 6 ∷ minus 1 ∷ pos 0 ∷ pos 6 ∷ [])) (lights (0 ∷ 1 ∷ 1 ∷ 2 ∷ 2 ∷ 3 ∷ 3 ∷ []))
-    -- the last sample's, to either side
-    ∷ case 0 (shown (fresh case1 (pos 4000 ∷ []) ∷ fresh case1 (pos 4000 ∷ pos 1334 ∷ []) ∷ fresh case1 (pos 4000 ∷ pos 1334 ∷ minus 1332 ∷ []) ∷ [])) (lights (3 ∷ 2 ∷ 1 ∷ []))
-    -- the last finished one's, where a sample is refused after it
-    ∷ case 0 (shown (fresh case1 (pos 4000 ∷ pos 100 ∷ pos 16777217 ∷ []) ∷ fresh case1 (pos 100 ∷ pos 4000 ∷ minus 16777217 ∷ pos 100 ∷ []) ∷ [])) (lights (1 ∷ 3 ∷ []))
-    -- no sample, a refused first one, 13, 12 and 3
-    ∷ case 0 (shown (fresh case1 [] ∷ fresh case1 (pos 16777217 ∷ pos 4000 ∷ []) ∷ [])) (lights (255 ∷ 255 ∷ []))
-    ∷ case 0 (shown (ran (call case1 freshWaves (pos 4000 ∷ []) []) ∷ ran (call case1 (set freshWaves 1 (pos 1)) (pos 4000 ∷ []) (pos 7 ∷ [])) ∷ fresh (versioned 3 case1) (pos 4000 ∷ []) ∷ [])) (lights (255 ∷ 255 ∷ 255 ∷ []))
+    ∷ case 0 (lit leftward (minus 10 ∷ minus 9 ∷ minus 7 ∷ minus 6 ∷ minus 1 ∷ pos 0 ∷ pos 6 ∷ [])) (lights (0 ∷ 1 ∷ 1 ∷ 2 ∷ 2 ∷ 3 ∷ 3 ∷ []))
+    -- of several samples the last one's
+    ∷ case 0 (shown (fresh case1 (pos 4000 ∷ []))) (light 3)
+    ∷ case 0 (shown (fresh case1 (pos 4000 ∷ pos 1334 ∷ []))) (light 2)
+    ∷ case 0 (shown (fresh case1 (pos 4000 ∷ pos 1334 ∷ minus 1332 ∷ []))) (light 1)
+    -- where a sample is refused, the one's before it
+    ∷ case 0 (shown (fresh case1 (pos 4000 ∷ pos 100 ∷ pos 16777217 ∷ []))) (light 1)
+    ∷ case 0 (shown (fresh case1 (pos 100 ∷ pos 4000 ∷ minus 16777217 ∷ pos 100 ∷ []))) (light 3)
+    -- no sample, and a first one that is refused
+    ∷ case 0 (shown (fresh case1 [])) (light 255)
+    ∷ case 0 (shown (fresh case1 (pos 16777217 ∷ pos 4000 ∷ []))) (light 255)
+    -- refused with 13, with 12 and with 3
+    ∷ case 0 (shown (ran (call case1 freshWaves (pos 4000 ∷ []) []))) (light 255)
+    ∷ case 0 (shown (ran (call case1 (set freshWaves 1 (pos 1)) (pos 4000 ∷ []) (pos 7 ∷ [])))) (light 255)
+    ∷ case 0 (shown (fresh (versioned 3 case1) (pos 4000 ∷ []))) (light 255)
     ∷ []
 
 segments-told : map (λ (l : Line). l .found) segments ≡ map (λ (l : Line). l .paper) segments
-unfolding working segments lit shown fresh
+unfolding working segments leftward lit shown light fresh
 segments-told = ap₂ _∷_ refl refl
 
 -- ---- operands: a sample with a wave from each child, tapped at either and at the top; a capacitor's sign; the last word of a check

@@ -16,7 +16,8 @@ abbrev pub inFront : {A : Type 0} → List A → List A → List A
 inFront front before = front ++ drop (length front) before
 
 module _ {A : Type 0} (shown : List ℤ → List A) where
-  -- why no more samples are done, how many are, and the segment of the last; what `shown` makes of their outputs is written, and the waves after them are loaded
+  -- why no more samples are done, how many are, and the segment of the last; what `shown` makes of their outputs is written, and the waves after
+  -- them are loaded
   pub record Ends (r : Record) (p : Played) (before : List A) (s : Stop) (ups : List ℤ) (out : List A) : Type 0 where
     pub number : handed (s .answer) ≡ reportAfter (length (p .outputs)) (p .number)
     pub samples : s .done ≡ length (p .outputs)

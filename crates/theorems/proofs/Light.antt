@@ -2,7 +2,7 @@
 -- magnitude. The segment that a run hands back is the one that its last finished sample's wave used, and 255 is never one.
 use Prim.Native.Nat.{ℕ, zero, suc, _<_, _≤_}
 use native.Mathlib.Omega.{arith}
-use mathlib.Core.Path.{_≡_, refl, sym, ap, _∙_}
+use mathlib.Core.Path.{_≡_, refl, sym, _∙_}
 use mathlib.Core.List.{List}
 use lib.ListN.{length, getD}
 use lib.IntN.{ℤ, pos, natAbs}
@@ -33,15 +33,15 @@ use Rattle.theorems.proofs.RunBound.{judged}
 -- ---- the segments of a curve
 
 module _ {r : Record} (d : Drawn r) (wide : r .width ≤ columnLimit) where
-  two : 0 < r .width
-  two = omega (arith, d .two)
+  there : 0 < r .width
+  there = omega (arith, d .two)
 
   only : (k : CurveKind) → r .kind ≡ k → Crosses k r → (a : ℤ) → segment r a ≡ 0 → (r .kind ≡ Single) × (a <ℤ columnAt r 0 .x)
   unfolding Crosses
   only Unset e c a z = absurd c
-  only Single e c a z = (e, passed-none r two (sym (segment-of r e a) ∙ z))
+  only Single e c a z = (e, passed-none r there (sym (segment-of r e a) ∙ z))
   only Pair e c a z =
-      let left : pos (natAbs a) <ℤ pos 0 = rw c at (passed-none r two (sym (segment-of r e a) ∙ z)) in
+      let left : pos (natAbs a) <ℤ pos 0 = rw c at (passed-none r there (sym (segment-of r e a) ∙ z)) in
       absurd (omega zarith)
 
   drawn-graded : Graded r

@@ -1,5 +1,4 @@
 -- `last_segment` meets its contract: the later call's, unless it finished no sample.
-use mathlib.Core.Path.{_≡_, refl}
 use borrow.Author.Tests.{eq-eqb, ne-eqb}
 use Rattle.uses.proofs.last_segment.Statement.{statement}
 use Rattle.uses.proofs.last_segment.Tie as tie
