@@ -361,10 +361,10 @@ def flow():
         "flow.svg", 1040, 470, "From the bytes of a circuit file to outputs",
         [
             "A circuit file is read into a record, set-up makes prepared rows of it, a run lays out a plan and works samples by it.",
-            "read can refuse with 1 to 11, write with 1 and 4 to 11, set_up with 4 to 11, run with 4 to 15.",
+            "read can refuse with 1 to 11, write with 1 and 3 to 11, set_up with 3 to 11, run with 3 to 15.",
             "build makes a curve of a knee and a thermal voltage, and can refuse with 18; put puts it into a record.",
-            "feed makes raw outputs of the bytes of a take, call by call, and can refuse with 4 to 12, 15 and 16; finish ends the take, and can",
-            "refuse with 4 to 12, 15 and 17.",
+            "feed makes raw outputs of the bytes of a take, call by call, and can refuse with 3 to 12, 15 and 16; finish ends the take, and can",
+            "refuse with 3 to 12, 15 and 17.",
             "list makes the text of a listing from the bytes; where reading refuses, the text says the number, 1 to 11.",
         ])
     p.text(28, 34, "From a circuit file to outputs", size=16, bold=True)
@@ -391,10 +391,10 @@ def flow():
     p.arrow([(a, mid - 8), (b, mid - 8)], UP)
     label(x, mid - 32, "read", "1 to 11")
     p.arrow([(b, mid + 10), (a, mid + 10)], UP)
-    label(x, mid + 30, "write", "1, 4 to 11")
+    label(x, mid + 30, "write", "1, 3 to 11")
     a, b, x = between(1)
     p.arrow([(a, mid), (b, mid)], UP)
-    label(x, mid - 24, "set_up", "4 to 11")
+    label(x, mid - 24, "set_up", "3 to 11")
     a, b = centre[1] + 30, centre[2] + 40
     p.arrow([(b, 88), (a, 88), (a, y - 4)], UP)
     p.text((a + b) / 2 + 20, 80, "build, put", "end", bold=True)
@@ -408,9 +408,9 @@ def flow():
     under = y + h
     p.arrow([(centre[1], under + 4), (centre[1], 252), (centre[4], 252), (centre[4], under + 4)], UP)
     x = (centre[1] + centre[4]) / 2
-    label(x, 226, "run", "4 to 15")
+    label(x, 226, "run", "3 to 15")
     p.text(x, 274, "takes the record, the stored waves and samples in microvolts; sets the record up anew;", "middle", 12, GREY)
-    p.text(x, 291, "hands back how many samples are done, and the stored waves after them", "middle", 12, GREY)
+    p.text(x, 291, "hands back how many samples are done, the segment of the last, and the stored waves", "middle", 12, GREY)
 
     p.arrow([(centre[0], under + 4), (centre[0], 316)], UP)
     label(centre[0] + 10, 254, "list", "in its text: 1 to 11", "start")
@@ -419,8 +419,8 @@ def flow():
     p.box(centre[1], 320, w, ["raw take", "three bytes each,", "cut at any byte"])
     p.box(centre[4], 320, w, ["raw outputs", "four bytes", "for each sample"])
     p.arrow([(centre[1] + w / 2 + 4, 352), (centre[4] - w / 2 - 4, 352)], UP)
-    label(centre[2], 328, "feed, for each piece", "4 to 12, 15, 16")
-    label(centre[3], 328, "finish, at the end", "4 to 12, 15, 17")
+    label(centre[2], 328, "feed, for each piece", "3 to 12, 15, 16")
+    label(centre[3], 328, "finish, at the end", "3 to 12, 15, 17")
     p.text(x, 372, "feed takes the record and what the call before it carried on: the stored waves,", "middle", 12, GREY)
     p.text(x, 389, "the bytes of a sample that is not whole yet, how many samples are done", "middle", 12, GREY)
     p.text(28, 440, "What each number means, its place and what to do about it: docs/NUMBERS.md.", ink=GREY)
@@ -551,7 +551,7 @@ def light():
     x, calls, long = 754, 3, 8
     p.text(x - 48, 30, "The light, call by call", size=15, bold=True)
     p.text(x - 48, 52, "24 waves at the pair's diode, in calls of eight", ink=GREY)
-    waves = [round(3600 * math.exp(-i / 9) * math.cos(0.5 + 0.9 * i)) for i in range(calls * long)]
+    waves = [round(3800 * math.exp(-i / 15) * math.cos(4.35 + 1.17 * i)) for i in range(calls * long)]
     p.rect(x, y, side, side, rx=0, fill="white")
     across = lambda i: x + side * (i + 0.5) / len(waves)
     up = lambda v: y + side * (Plot.reach - v) / (2 * Plot.reach)
