@@ -329,28 +329,29 @@ u8 segment;
 
 /* Halves the lines that remain, 0 to `high` at first. Asked once for both arms whether only one does, clang may choose the half without a jump,
  * and each step then waits for the one before it. */
-INLINE const struct line *line_at(i64 x, unsigned long high)
+INLINE unsigned long line_at(i64 x, unsigned long high)
 {
     unsigned long low = 0;
     for (;;) {
         unsigned long middle = (low + high) / 2;
         if (line[middle + 1].edge <= x) {
-            if (middle + 1 == high) return &line[high];
+            if (middle + 1 == high) return high;
             low = middle + 1;
         } else {
-            if (middle == low) return &line[low];
+            if (middle == low) return low;
             high = middle;
         }
     }
 }
 
-INLINE i64 drawn(i64 x, unsigned long width, const struct line **used)
+INLINE i64 drawn(i64 x, unsigned long width, u8 *used)
 {
-    const struct line *l = *used = line_at(x, width);
-    return (l->rise * x + l->base) / l->run;
+    unsigned long n = line_at(x, width);
+    *used = n;
+    return (line[n].rise * x + line[n].base) / line[n].run;
 }
 
-INLINE i64 reflect(i64 x, int pair, unsigned long width, const struct line **used)
+INLINE i64 reflect(i64 x, int pair, unsigned long width, u8 *used)
 {
     return pair && x < 0 ? -drawn(-x, width, used) : drawn(x, width, used);
 }
@@ -365,16 +366,15 @@ static int leaf_over(void)
 /* a + g * t / PARTS as one fraction, rounded toward zero. */
 INLINE i64 mixed(i64 g, i64 a, i64 t) { return (PARTS * a + g * t) / PARTS; }
 
-/* Works n samples, and hands back how many were done before one was refused, and the line of the last of them. The byte before the first sample
- * is read too. */
-INLINE long work(const u8 *in, i32 *out, long n, int pair, int inward, const struct line **lit)
+/* Works n samples, and hands back how many were done before one was refused. The byte before the first sample is read too. */
+INLINE long work(const u8 *in, i32 *out, long n, int pair, int inward)
 {
     const i32 *const start = out;
     const unsigned long width = file.width;
     const long joints = adaptors, kept = reactive & ~1L, ends = leaves & ~1L;     /* even, for the compiler to see */
     const i64 in_turn = sample_turn, out_turn = meter;
     i64 *const sent = &up[ends], *const arriving = &down[ends];
-    const struct line *used;
+    u8 used;
     for (const u8 *const end = in + 3 * n; in != end; in += 3) {
         i32 sample;
         memcpy(&sample, in - 1, 4);
@@ -411,7 +411,7 @@ INLINE long work(const u8 *in, i32 *out, long n, int pair, int inward, const str
         if (past & -(2LL * WAVE_LIMIT) && leaf_over()) return out - start;
 
         *out++ = (i32)turned(out_turn, up[tap] + down[tap]);
-        *lit = used;
+        segment = used;
         TWO_AT_A_TIME
         for (long i = 0; i < kept; i++) up[i] = turned(turn[i], down[i]);
     }
@@ -419,22 +419,20 @@ INLINE long work(const u8 *in, i32 *out, long n, int pair, int inward, const str
 }
 
 /* The kind of curve and the rounding are chosen once for a call. */
-INLINE long work_by(const u8 *in, i32 *out, long n, int pair, const struct line **lit)
+INLINE long work_by(const u8 *in, i32 *out, long n, int pair)
 {
-    return file.version == ROUNDED_DOWN ? work(in, out, n, pair, 0, lit) : work(in, out, n, pair, 1, lit);
+    return file.version == ROUNDED_DOWN ? work(in, out, n, pair, 0) : work(in, out, n, pair, 1);
 }
 
 /* A call: the refusal's number, and how many samples are done. Within `main` it would be left too few registers. */
 static __attribute__((noinline)) int feed(const u8 *in, i32 *out, long n, long *done)
 {
-    const struct line *lit = 0;
     int number = set_up();
     *done = 0;
     segment = NO_SEGMENT;
     if (number) return number;
     lay_out();
-    *done = file.curve == PAIR ? work_by(in, out, n, 1, &lit) : work_by(in, out, n, 0, &lit);
-    if (lit) segment = lit - line;
+    *done = file.curve == PAIR ? work_by(in, out, n, 1) : work_by(in, out, n, 0);
     store_waves();
     return *done < n ? 15 : 0;
 }

@@ -12,13 +12,12 @@ ghost use lib.ListN.{length};
 ghost use Rattle.whole.specs.Order.{Abs};
 ghost use Rattle.whole.specs.Fraction.{whole};
 ghost use Rattle.circuit.specs.Record.{columnLimit};
-ghost use Rattle.circuit.specs.Curve as Curve;
-ghost use Rattle.circuit.specs.Curve.{waveLimit, passed, towardZero};
+ghost use Rattle.circuit.specs.Curve.{waveLimit, passed};
 ghost use Rattle.circuit.specs.declared.Record.{Record};
 ghost use Rattle.laws.specs.Accepted.{Drawn};
 ghost use Rattle.sheet.specs.Sheet.{columnsIn};
 ghost use Rattle.parts.specs.Parts.{mirrorOf};
-ghost use Rattle.engine.specs.Curve.{lineBy, Sloped, lineLimit, columnIn, slopeIn, lineIn, lastLine, Plotted, Drawing, Reflects};
+ghost use Rattle.engine.specs.Curve.{lineBy, Sloped, lineLimit, columnIn, slopeIn, lineIn, lastLine, Plotted, Drawing, Draws, Reflects};
 
 // One line more than there are columns, and one more to make them a power of two.
 pub(crate) const LINES: usize = COLUMNS + 2;
@@ -139,40 +138,39 @@ fn segment(width: usize, lines: &[Line; LINES], wave: i64) -> usize
     }
 }
 
-// The drawn line at a wave of segment n, with one division.
-fn drawn(n: usize, lines: &[Line; LINES], wave: i64) -> i64
-    requires { ⌜ ((r : Record) × (width : ℕ) × Drawing r width (now lines) × (n ≡ passed r (whole wave))) × Abs wave waveLimit ⌝ }
-    ensures { λ a. ⌜ ((r : Record) (width : ℕ) → Drawing r width (now (lines .entry)) → n ≡ passed r (whole wave)
-        → a ≡ towardZero (Curve.drawn r (whole wave))) ⌝ }
-{
-    let l = lines[n];
-    (l[1] * wave + l[2]) / ((l[3] as u32) as i64 + 1)
-}
-
-// The wave that the diode sends back, and the segment that it used.
+// The diode's answer: the wave that it sends back, and the segment that it used.
 pub(crate) struct Reflection {
     pub wave: Wave,
     pub segment: u8,
 }
 
-// A pair's negative wave is looked up by its magnitude.
+// The drawn line at a wave, with one search and one division.
+fn drawn(width: usize, lines: &[Line; LINES], wave: i64) -> Reflection
+    requires { ⌜ ((r : Record) × Drawing r width (now lines)) × Abs wave waveLimit ⌝ }
+    ensures { λ q. ⌜ ((r : Record) → Drawing r width (now (lines .entry)) → Draws r wave q) ⌝ }
+{
+    let n = segment(width, lines, wave);
+    let l = lines[n];
+    let answer = (l[1] * wave + l[2]) / ((l[3] as u32) as i64 + 1);
+    Reflection {
+        wave: Wave(answer),
+        segment: n as u8,
+    }
+}
+
+// A pair answers a negative wave with minus the answer for its opposite, in the opposite's segment.
 pub(crate) fn reflect(mirror: i64, width: usize, lines: &[Line; LINES], wave: Wave) -> Reflection
     requires { ⌜ ((r : Record) × Drawing r width (now lines) × (mirror ≡ mirrorOf (r .kind))) × Abs (wave .0) waveLimit ⌝ }
-    ensures { λ a. ⌜ ((r : Record) → Drawing r width (now (lines .entry)) → mirror ≡ mirrorOf (r .kind) → Reflects r (wave .0) a) ⌝ }
+    ensures { λ q. ⌜ ((r : Record) → Drawing r width (now (lines .entry)) → mirror ≡ mirrorOf (r .kind) → Reflects r (wave .0) q) ⌝ }
 {
     let a = wave.0;
     if a < mirror {
-        let magnitude = -a;
-        let n = segment(width, lines, magnitude);
+        let opposite = drawn(width, lines, -a);
         Reflection {
-            wave: Wave(-drawn(n, lines, magnitude)),
-            segment: n as u8,
+            wave: Wave(-opposite.wave.0),
+            segment: opposite.segment,
         }
     } else {
-        let n = segment(width, lines, a);
-        Reflection {
-            wave: Wave(drawn(n, lines, a)),
-            segment: n as u8,
-        }
+        drawn(width, lines, a)
     }
 }
