@@ -37,6 +37,12 @@ passes-on {a} {b} l x = by (below (whole b) x) refl
         rw (below-whole less) (omega arith)
     by false e = rw e (one-small (not (below (whole a) x)))
 
+size-left : {a : ℤ} → a <ℤ pos 0 → pos (natAbs a) ≡ negℤ a
+size-left {a} l = omega (zarith, is-neg (at a), abs-parts a)
+
+size-right : {a : ℤ} → pos 0 ≤ℤ a → pos (natAbs a) ≡ a
+size-right {a} l = omega (zarith, abs-parts a)
+
 module _ (r : Record) where
   pub passed-rises : {a b : ℤ} → a ≤ℤ b → passed r (whole a) ≤ passed r (whole b)
   unfolding passed
@@ -66,11 +72,12 @@ module _ (r : Record) where
   pub pair-segment : r .kind ≡ Pair → (a b : ℤ) → natAbs a ≡ natAbs b → segment r a ≡ segment r b
   pair-segment e a b h = segment-of e a ∙ ap (λ n. passed r (whole (pos n))) h ∙ sym (segment-of e b)
 
-pub size-left : {a : ℤ} → a <ℤ pos 0 → pos (natAbs a) ≡ negℤ a
-size-left {a} l = omega (zarith, is-neg (at a), abs-parts a)
+  -- the columns passed by the wave from 0 on, and below it by its opposite
+  pub segment-right : r .kind ≡ Pair → (a : ℤ) → pos 0 ≤ℤ a → segment r a ≡ passed r (whole a)
+  segment-right e a l = segment-of e a ∙ ap (λ z. passed r (whole z)) (size-right l)
 
-pub size-right : {a : ℤ} → pos 0 ≤ℤ a → pos (natAbs a) ≡ a
-size-right {a} l = omega (zarith, abs-parts a)
+  pub segment-left : r .kind ≡ Pair → (a : ℤ) → a <ℤ pos 0 → segment r a ≡ passed r (whole (negℤ a))
+  segment-left e a l = segment-of e a ∙ ap (λ z. passed r (whole z)) (size-left l)
 
 -- ---- the last of a list
 

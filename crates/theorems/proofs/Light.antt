@@ -1,17 +1,18 @@
--- THE LIGHT. Segments are counted from the left, so that no column passed is lost as a wave rises; a pair's first column is passed by every
--- magnitude. The segment that a run hands back is the one that its last finished sample's wave used, and 255 is never one.
+-- THE LIGHT. The segment is the one whose line answers the wave. Segments are counted from the left, so that no column passed is lost as a wave
+-- rises; a pair's first column is passed by every magnitude. The segment that a run hands back is the one that its last finished sample's wave used,
+-- and 255 is never one.
 use Prim.Native.Nat.{ℕ, zero, suc, _<_, _≤_}
 use native.Mathlib.Omega.{arith}
-use mathlib.Core.Path.{_≡_, refl, sym, _∙_}
+use mathlib.Core.Path.{_≡_, refl, sym, ap, _∙_}
 use mathlib.Core.List.{List}
 use lib.ListN.{length, getD}
-use lib.IntN.{ℤ, pos, natAbs}
+use lib.IntN.{ℤ, pos, negℤ, natAbs}
 use lib.Signed.{_<ℤ_, _≤ℤ_}
 use Rattle.whole.specs.Order.{zarith}
 use Rattle.whole.specs.Fraction.{whole}
 use Rattle.circuit.specs.Numbers.{passes, judge}
 use Rattle.circuit.specs.Record.{columnLimit, columnAt, formRule}
-use Rattle.circuit.specs.Curve.{columnRule, takenOn, segment}
+use Rattle.circuit.specs.Curve.{columnRule, piece, drawn, lineOf, line, towardZero, reflected, takenOn, segment}
 use Rattle.circuit.specs.Run.{Played, play, Call, runRules, noSegment, ran}
 use Rattle.circuit.specs.Promises.{Runs}
 use Rattle.circuit.specs.declared.CurveKind.{CurveKind}
@@ -23,12 +24,24 @@ use Rattle.laws.proofs.Formed.{formed}
 use Rattle.laws.proofs.Columns.{columns-drawn}
 use Rattle.laws.proofs.Drawn.{passed-is}
 use Rattle.laws.proofs.Accepting.{accepting}
-use Rattle.laws.proofs.Segments.{passed-rises, passed-most, passed-none, segment-of, last-none, last-at}
+use Rattle.laws.proofs.Line.{pair-left, pair-right}
+use Rattle.laws.proofs.Segments.{passed-rises, passed-most, passed-none, segment-of, segment-left, segment-right, last-none, last-at}
 use Rattle.laws.proofs.Playing.{finished-means, play-at, play-segments}
 use Rattle.laws.proofs.Running.{zero-allowed, ran-refused, ran-worked}
 use Rattle.theorems.specs.Limit.{wavesAfter}
-use Rattle.theorems.specs.Light.{Graded, hit, Shows}
+use Rattle.theorems.specs.Light.{Used, Graded, hit, Shows}
 use Rattle.theorems.proofs.RunBound.{judged}
+
+-- ---- the segment that is used
+
+-- of every record
+pub used : (r : Record) → Used r
+unfolding reflected line drawn
+used r = record {
+  single = λ e a. ap (λ k. towardZero (lineOf k (drawn r) (whole a))) e ∙ ap (λ n. towardZero (piece r n (whole a))) (sym (segment-of r e a));
+  pair = λ e a l. pair-right r e a l ∙ ap (λ n. towardZero (piece r n (whole a))) (sym (segment-right r e a l));
+  mirrored = λ e a l. pair-left r e a l ∙ ap (λ n. negℤ (towardZero (piece r n (whole (negℤ a))))) (sym (segment-left r e a l));
+}
 
 -- ---- the segments of a curve
 

@@ -2,15 +2,22 @@
 use Prim.Native.Nat.{ℕ, suc, _<_, _≤_}
 use mathlib.Core.Path.{_≡_}
 use lib.ListN.{getD}
-use lib.IntN.{ℤ, pos, natAbs}
+use lib.IntN.{ℤ, pos, negℤ, natAbs}
 use lib.Signed.{_<ℤ_, _≤ℤ_}
+use Rattle.whole.specs.Fraction.{whole}
 use Rattle.circuit.specs.Record.{columnLimit, columnAt}
-use Rattle.circuit.specs.Curve.{segment}
+use Rattle.circuit.specs.Curve.{piece, towardZero, reflected, segment}
 use Rattle.circuit.specs.Sample.{rounded, risen, storedAt}
 use Rattle.circuit.specs.Run.{Call, noSegment}
 use Rattle.circuit.specs.declared.CurveKind.the-variants.{Single, Pair}
 use Rattle.circuit.specs.declared.Record.{Record}
 use Rattle.theorems.specs.Limit.{wavesAfter}
+
+-- the wave sent back is on the line of the segment; a pair's negative wave gets minus the answer for its opposite, on the same line
+pub record Used (r : Record) : Type 0 where
+  pub single : r .kind ≡ Single → (a : ℤ) → reflected r a ≡ towardZero (piece r (segment r a) (whole a))
+  pub pair : r .kind ≡ Pair → (a : ℤ) → pos 0 ≤ℤ a → reflected r a ≡ towardZero (piece r (segment r a) (whole a))
+  pub mirrored : r .kind ≡ Pair → (a : ℤ) → a <ℤ pos 0 → reflected r a ≡ negℤ (towardZero (piece r (segment r a) (whole (negℤ a))))
 
 pub record Graded (r : Record) : Type 0 where
   -- 0 left of a single's first column, and nowhere else

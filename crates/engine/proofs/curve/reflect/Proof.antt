@@ -15,7 +15,7 @@ use Rattle.circuit.specs.declared.Record.{Record}
 use Rattle.laws.specs.Accepted.{Crosses}
 use Rattle.laws.proofs.Line.{pair-left, pair-right}
 use Rattle.laws.proofs.Drawn.{answer-never-exceeds}
-use Rattle.laws.proofs.Segments.{segment-of, size-left, size-right}
+use Rattle.laws.proofs.Segments.{segment-of, segment-left, segment-right}
 use Rattle.parts.specs.Parts.{mirrorOf}
 use Rattle.engine.specs.Curve.{Drawing, Draws}
 use Rattle.engine.proofs.Limits.{opposite-fits, opposite-reads, limit-reads}
@@ -29,14 +29,14 @@ module _ (r : Record) {m a : ℤ} (small : Abs a waveLimit) where
   unfolding Crosses mirrorOf
   mirrored Unset e c h l = absurd c
   mirrored Single e c h l = absurd (let none : ⊥ = omega (zarith, is-neg (at (pos waveLimit))) in none)
-  mirrored Pair e c h l = (pair-left r e a (rw h at l), segment-of r e a ∙ ap (λ z. passed r (whole z)) (size-left (rw h at l)))
+  mirrored Pair e c h l = (pair-left r e a (rw h at l), segment-left r e a (rw h at l))
 
   straight : (k : CurveKind) → r .kind ≡ k → Crosses k r → m ≡ mirrorOf k → m ≤ℤ a
       → (reflected r a ≡ towardZero (drawn r (whole a))) × (segment r a ≡ passed r (whole a))
   unfolding Crosses mirrorOf reflected line
   straight Unset e c h l = absurd c
   straight Single e c h l = (ap (λ (k : CurveKind). towardZero (lineOf k (drawn r) (whole a))) e, segment-of r e a)
-  straight Pair e c h l = (pair-right r e a (rw h at l), segment-of r e a ∙ ap (λ z. passed r (whole z)) (size-right (rw h at l)))
+  straight Pair e c h l = (pair-right r e a (rw h at l), segment-right r e a (rw h at l))
 
 -- the answer to the opposite
 module _ (c : tie.After-drawn) where
