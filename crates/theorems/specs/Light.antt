@@ -13,7 +13,7 @@ use Rattle.circuit.specs.declared.CurveKind.the-variants.{Single, Pair}
 use Rattle.circuit.specs.declared.Record.{Record}
 use Rattle.theorems.specs.Limit.{wavesAfter}
 
--- the wave sent back is on the line of the segment; a pair's negative wave gets minus the answer for its opposite, on the same line
+-- the wave sent back is the value of the segment's line, rounded toward zero, and for a pair's negative wave minus that at its opposite
 pub record Used (r : Record) : Type 0 where
   pub single : r .kind ≡ Single → (a : ℤ) → reflected r a ≡ towardZero (piece r (segment r a) (whole a))
   pub pair : r .kind ≡ Pair → (a : ℤ) → pos 0 ≤ℤ a → reflected r a ≡ towardZero (piece r (segment r a) (whole a))

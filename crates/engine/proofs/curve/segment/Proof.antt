@@ -67,11 +67,11 @@ module _ (c : tie.After-if12 Inv-loop μ-loop) where
       let w = start .pre .1 in
       passed-count d w n (omega (arith, d .many)) (rw (limit-reads w) at left) (rw (limit-reads w) at right)
 
-behind : (c : tie.Then1 Inv-loop μ-loop) → edge (c .before) (middle (c .before)) ≤ℤ wave (c .before)
-behind c = leZ-true _ _ (rw (edge-reads (c .before)) at (c .if1 .taken))
-
 ahead : (c : tie.Else1 Inv-loop μ-loop) → wave (c .before) <ℤ edge (c .before) (middle (c .before))
 ahead c = leZ-false _ _ (rw (edge-reads (c .before)) at (c .if1 .left))
+
+behind : (c : tie.Then1 Inv-loop μ-loop) → edge (c .before) (middle (c .before)) ≤ℤ wave (c .before)
+behind c = leZ-true _ _ (rw (edge-reads (c .before)) at (c .if1 .taken))
 
 loop-again : tie.Need-loop-again Inv-loop μ-loop
 loop-again c = let inv = turn (c .before .before) .loop .inv in (omega arith, inv .1, behind-next _ refl (behind (c .before)), inv .3)
