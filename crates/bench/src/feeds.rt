@@ -16,7 +16,7 @@ type Samples = [u8; 6];
 type Room = [u8; 8];
 
 // The last call of a take, and the room after all of them.
-#[derive(Drop)]
+#[derive(Clone, Copy)]
 struct Fed {
     feed: Feed,
     room: Room,

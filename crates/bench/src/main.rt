@@ -1,5 +1,7 @@
 // The bench: the cases of the paper's table, both sides of each limit, and what a refusal leaves, through the functions that anyone can
 // call. A line says what a case hands back; the last line, how many cases agree with what they should be.
+#![tactic(auto)]
+
 mod feeds;
 mod files;
 mod knees;

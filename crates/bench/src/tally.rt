@@ -4,7 +4,7 @@ use crate::{labels, show};
 use circuit::Answer;
 use std::num::wrapping_add_u64;
 
-#[derive(Drop)]
+#[derive(Clone, Copy)]
 pub struct Tally {
     pub cases: u64,
     pub agree: u64,

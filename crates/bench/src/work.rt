@@ -4,7 +4,7 @@ use crate::show::BEFORE;
 use crate::tally::agrees;
 use circuit::{ROWS, Record, State};
 
-#[derive(Drop)]
+#[derive(Clone, Copy)]
 pub struct Worked {
     pub right: bool,
     pub state: State,

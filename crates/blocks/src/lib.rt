@@ -1,6 +1,8 @@
 // The bytes of a circuit file, in three blocks: what is asked of them before set-up looks at their record, the record that they hold, and the
 // bytes of a record. Numbers as bytes are in `field`, a block and its check in `block`, the blocks' contents in `heading`, `row` and `column`,
 // and what is asked of them in `rules`.
+#![tactic(auto)]
+
 mod block;
 mod column;
 mod field;

@@ -1,5 +1,7 @@
 // A circuit with the waves that it starts from: rules 3 to 12, which every call that plays samples tries first, the ports that it plays with,
 // and what it hands back where it is turned away.
+#![tactic(auto)]
+
 ghost use Rattle.std.specs.Prelude.{◌≡◌, not};
 ghost use Rattle.circuit.specs.Numbers.{handed, judge, lowest};
 ghost use Rattle.circuit.specs.Record.{row_limit};

@@ -1,5 +1,6 @@
 // The words of a circuit: the record that describes one, what set-up makes of it, the waves that a run carries, and the answers
 // that the unit hands back. What they mean is in specs/, a file to a heading of the paper.
+#![tactic(auto)]
 
 ghost use Rattle.std.specs.Prelude.{◌%◌, ◌^◌, ◌≡◌, cond, [], ◌∷◌, eqb, nat_abs};
 ghost use Rattle.circuit.specs.Counting.{between, within};
@@ -64,7 +65,7 @@ pub const LEFT_LIMIT: usize = 2;
 pub const TAKE_LIMIT: u64 = 4611686018427387904;
 
 // A leaf: ohms, farads or henries. A steady source also has its microvolts.
-#[derive(Drop)]
+#[derive(Clone, Copy)]
 pub enum Element {
     Resistor(f64),
     Capacitor(f64),
@@ -100,21 +101,21 @@ impl Element {
     }
 }
 
-#[derive(Drop)]
+#[derive(Clone, Copy)]
 pub enum Join {
     Series,
     Parallel,
 }
 
 // The two rows that an adaptor joins, by their numbers.
-#[derive(Drop)]
+#[derive(Clone, Copy)]
 pub struct Adaptor {
     pub join: Join,
     pub first: u8,
     pub second: u8,
 }
 
-#[derive(Drop)]
+#[derive(Clone, Copy)]
 pub enum Part {
     Blank,
     Leaf(Element),
@@ -143,7 +144,7 @@ impl Part {
     }
 }
 
-#[derive(Drop)]
+#[derive(Clone, Copy)]
 pub struct Row {
     pub part: Part,
     // a leaf the other way round: its waves change sign between it and the tree
@@ -151,20 +152,20 @@ pub struct Row {
 }
 
 // A point of the diode's curve, in microvolts: the wave that reaches the diode, and the wave that it sends back.
-#[derive(Drop)]
+#[derive(Clone, Copy)]
 pub struct Column {
     pub x: i32,
     pub y: i32,
 }
 
-#[derive(Drop)]
+#[derive(Clone, Copy)]
 pub enum CurveKind {
     Unset,
     Single,
     Pair,
 }
 
-#[derive(Drop)]
+#[derive(Clone, Copy)]
 pub struct Record {
     // of its file, and how its waves are rounded
     pub version: u16,
@@ -184,7 +185,7 @@ pub struct Record {
 }
 
 // A row after set-up: its port resistance in ohms, and an adaptor's ratio in parts of 2^24.
-#[derive(Drop)]
+#[derive(Clone, Copy)]
 pub struct Prepared {
     pub resistance: f64,
     pub ratio: u32,
@@ -203,13 +204,13 @@ impl Prepared {
 }
 
 // The stored waves in microvolts, one for each row: 0 where the row is not reactive.
-#[derive(Drop)]
+#[derive(Clone, Copy)]
 pub struct State {
     pub waves: [i32; ROWS],
 }
 
 // A wave, in whole microvolts.
-#[derive(Drop)]
+#[derive(Clone, Copy)]
 pub struct Wave(pub i64);
 
 impl Wave {
@@ -223,12 +224,12 @@ impl Wave {
 }
 
 // A port voltage, in whole half microvolts: twice the voltage is the sum of the two waves.
-#[derive(Drop)]
+#[derive(Clone, Copy)]
 pub struct Doubled(pub i32);
 
 // What is handed back, a case for each number. A case holds its place: a block, a row (255 for the input, the tap, or what a take carries
 // beside its waves), a column, the index of a sample, or how many samples are done.
-#[derive(Drop)]
+#[derive(Clone, Copy)]
 pub enum Answer {
     Done,
     Length,
@@ -253,6 +254,7 @@ pub enum Answer {
 
 impl Answer {
     // From 0, done, to 18.
+    #[tactic(auto, unfolding(crate::specs::Numbers::handed))]
     pub fn number(self) -> u64
         ensures { result ≡ (handed self).number }
     {
@@ -280,6 +282,7 @@ impl Answer {
     }
 
     // 0 where a number has no place.
+    #[tactic(auto, unfolding(crate::specs::Numbers::handed))]
     pub fn place(self) -> u64
         ensures { result ≡ (handed self).place }
     {
@@ -315,14 +318,14 @@ impl Answer {
 }
 
 // What set-up hands back; on refusal the rows are zeros.
-#[derive(Drop)]
+#[derive(Clone, Copy)]
 pub struct SetUp {
     pub answer: Answer,
     pub rows: [Prepared; ROWS],
 }
 
 // The same as lists: the rows' port resistances in ohms, and their ratios in parts of 2^24.
-#[derive(Drop)]
+#[derive(Clone, Copy)]
 pub struct Ports {
     pub answer: Answer,
     pub resistances: [f64; ROWS],
@@ -330,14 +333,14 @@ pub struct Ports {
 }
 
 // What reading hands back; on refusal the record is the one of zeros.
-#[derive(Drop)]
+#[derive(Clone, Copy)]
 pub struct Reading {
     pub answer: Answer,
     pub record: Record,
 }
 
 // What opening a file hands back: a reading, with the rows that set-up prepared; on refusal they are zeros too.
-#[derive(Drop)]
+#[derive(Clone, Copy)]
 pub struct Opened {
     pub answer: Answer,
     pub record: Record,
@@ -345,14 +348,14 @@ pub struct Opened {
 }
 
 // What listing a file hands back: what reading it answers, and how many bytes the text has.
-#[derive(Drop)]
+#[derive(Clone, Copy)]
 pub struct Listed {
     pub answer: Answer,
     pub length: usize,
 }
 
 // What a run hands back: how many samples are done, the segment that the diode used in the last of them, and the waves after them.
-#[derive(Drop)]
+#[derive(Clone, Copy)]
 pub struct Progress {
     pub answer: Answer,
     pub done: usize,
@@ -361,7 +364,7 @@ pub struct Progress {
 }
 
 // What a take carries from call to call.
-#[derive(Drop)]
+#[derive(Clone, Copy)]
 pub struct Carried {
     pub state: State,
     // the bytes of a sample that is not whole yet, and how many they are
@@ -374,7 +377,7 @@ pub struct Carried {
 }
 
 // What a call of a take hands back: how many samples it did, the segment of the last of them, and what it carries on.
-#[derive(Drop)]
+#[derive(Clone, Copy)]
 pub struct Feed {
     pub answer: Answer,
     pub done: usize,
@@ -383,7 +386,7 @@ pub struct Feed {
 }
 
 // What building a curve hands back: a curve as a record has it. On refusal no kind, no columns, and zeros.
-#[derive(Drop)]
+#[derive(Clone, Copy)]
 pub struct Built {
     pub answer: Answer,
     pub kind: CurveKind,

@@ -26,7 +26,7 @@ pub(crate) type Line = [i64; 4];
 const BEYOND: i64 = 4611686018427387904;
 
 // How far a line rises over a run.
-#[derive(Drop)]
+#[derive(Clone, Copy)]
 struct Slope {
     rise: i64,
     run: i64,
@@ -137,7 +137,7 @@ fn segment(width: usize, lines: &[Line; LINES], wave: i64) -> usize
 }
 
 // The diode's answer: the wave that it sends back, and the segment that it used.
-#[derive(Drop)]
+#[derive(Clone, Copy)]
 pub(crate) struct Reflection {
     pub wave: Wave,
     pub segment: u8,

@@ -32,7 +32,7 @@ pub(crate) const FLOOR: usize = JOINTS;
 const ROLES: usize = 5;
 
 // The numbers of a circuit that a sample asks for.
-#[derive(Drop)]
+#[derive(Clone, Copy)]
 pub(crate) struct Shape {
     // whether adaptors round toward zero, and not down
     pub inward: bool,

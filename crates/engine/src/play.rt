@@ -77,7 +77,7 @@ fn put(output: &mut [i32], i: usize, v: Doubled)
 }
 
 // How many samples are done, the segment of the last of them, and why no more are done.
-#[derive(Drop)]
+#[derive(Clone, Copy)]
 pub(crate) struct Stop {
     pub answer: Answer,
     pub done: usize,

@@ -97,7 +97,7 @@ fn tapped(meter: i64, up: Wave, down: Wave) -> Doubled
 }
 
 // What a sample comes to: it is refused with 14 or 15, or it has an output and the segment that the diode used.
-#[derive(Drop)]
+#[derive(Clone, Copy)]
 pub(crate) enum Outcome {
     Loud,
     Over,

@@ -10,7 +10,7 @@ ghost use Rattle.engine.specs.Wave.{up_limit, sum_limit, Share, way, Below, Bene
 use circuit::{Join, PARTS, Wave};
 
 // The waves that an adaptor sends its two children.
-#[derive(Drop)]
+#[derive(Clone, Copy)]
 pub(crate) struct SentDown {
     pub first: Wave,
     pub second: Wave,

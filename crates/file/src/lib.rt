@@ -1,4 +1,6 @@
 // The circuit file: reading it, and writing it. Its bytes are taken apart and put together in `blocks`, and its record is judged in `setup`.
+#![tactic(auto)]
+
 ghost use Rattle.std.specs.Prelude.{◌≡◌, replicate};
 ghost use Rattle.circuit.specs.Record.{row_limit};
 ghost use Rattle.circuit.specs.SetUp.{nothing};

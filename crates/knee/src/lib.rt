@@ -1,4 +1,6 @@
 // Curves built in the unit: a pair's curve from a knee and a thermal voltage in microvolts, and a circuit file with its curve built anew.
+#![tactic(auto)]
+
 mod column;
 
 ghost use Rattle.std.specs.Prelude.{true, ◌≡◌};

@@ -1,6 +1,8 @@
 // Turns the knob of the circuit file on standard input: standard output gets the same file, with the curve of a knee and a thermal voltage in
 // place of its own. Standard error says in words why a file or a knob is refused, and nothing is written then. The two arguments are the knee
 // and the thermal voltage, in whole microvolts.
+#![tactic(auto)]
+
 use circuit::{Answer, FILE_LENGTH};
 use libc::{STDERR_FILENO, STDIN_FILENO, STDOUT_FILENO};
 use numeral::Numeral;
@@ -13,7 +15,7 @@ const ARGUMENTS: usize = 3;
 const MOST: u32 = 2147483647;
 
 // What an argument asks for.
-#[derive(Drop)]
+#[derive(Clone, Copy)]
 enum Voltage {
     Microvolts(i32),
     Nothing,

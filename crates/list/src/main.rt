@@ -1,4 +1,6 @@
 // Lists the circuit file on standard input. Standard error says in words why a file is refused.
+#![tactic(auto)]
+
 use circuit::{Answer, FILE_LENGTH};
 use libc::{STDERR_FILENO, STDIN_FILENO, STDOUT_FILENO};
 

@@ -1,4 +1,6 @@
 // The listing of a circuit file, as text: a line for the count and the tap, then a line for each row; or one line for a refusal.
+#![tactic(auto)]
+
 mod row;
 mod text;
 

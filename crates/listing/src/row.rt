@@ -32,7 +32,7 @@ fn put_join(out: &mut [u8], at: usize, k: Join) -> usize
 }
 
 // What a row's line ends in.
-#[derive(Drop)]
+#[derive(Clone, Copy)]
 enum Ending {
     Dash,
     Ratio(u64),

@@ -1,4 +1,5 @@
 // One row and one column: the tests and the numbers that set-up's rules are made of.
+#![tactic(auto)]
 
 ghost use Rattle.std.specs.Prelude.{◌≡◌, ◌^◌, ◌<◌, ◌&&◌, pos, ◌-ℤ◌, if◌then◌else◌, int_lt, nat_eq, nat_le, unsigned_abs};
 ghost use Rattle.std.specs.Float.Ieee.Positive.{positive};

@@ -1,9 +1,11 @@
 // Reads the numbers that a person types.
+#![tactic(auto)]
+
 ghost use Rattle.std.specs.Prelude.{◌+◌, ◌*◌, min, ◌≡◌, true};
 ghost use Rattle.numeral.specs.Numeral.{is_digit, digit_of, are_digits, value, numeral};
 
 // A number as a person types it, in decimal digits.
-#[derive(Drop)]
+#[derive(Clone, Copy)]
 pub enum Numeral {
     Number(u32),
     Nothing,

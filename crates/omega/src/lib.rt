@@ -1,4 +1,6 @@
 // Omega between -943/256 and 505/256, by a table.
+#![tactic(auto)]
+
 mod table;
 
 ghost use Rattle.std.specs.Prelude.{◌≡◌, ◌-◌, ◌<◌, min, pos};

@@ -1,5 +1,7 @@
 // What one part of a circuit is to a run: a row's role among the slots, what it sends from its stored wave and what it keeps, which of its waves
 // change sign, the row that a tap reads, and the wave from which on a curve answers by its drawn line.
+#![tactic(auto)]
+
 ghost use Rattle.std.specs.Prelude.{◌≡◌, cond, eqb, pos};
 ghost use Rattle.circuit.specs.Record.{top};
 ghost use Rattle.circuit.specs.Sample.{Rounding, whole_waves, sends, part_sends};

@@ -1,4 +1,6 @@
 // Lists every circuit file that its arguments name: the name on a line, and the listing after it.
+#![tactic(auto)]
+
 use circuit::FILE_LENGTH;
 use libc::STDOUT_FILENO;
 use listing::ROOM;

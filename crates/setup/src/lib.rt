@@ -1,5 +1,6 @@
 // Set-up: rules 3 to 11 of a record, of which `wiring` has 4 to 7, and its prepared rows. The lowest number that applies is handed back, with
 // its place. The record is laid out once as lists of numbers, and they are lent to every rule.
+#![tactic(auto)]
 
 ghost use Rattle.std.specs.Prelude.{◌≡◌};
 ghost use Rattle.circuit.specs.Numbers.{handed, judge, passes};

@@ -1,5 +1,7 @@
 // A record as lists of numbers, a sheet, which can be lent. An array of structs goes into a function by value, and a copy of the rows for every
 // rule that reads them would cost more than the rules do.
+#![tactic(auto)]
+
 ghost use Rattle.std.specs.Prelude.{◌≡◌, length, get_or};
 ghost use Rattle.circuit.specs.Counting.{one, table};
 ghost use Rattle.circuit.specs.Record.{row_limit, column_limit};
@@ -25,7 +27,7 @@ pub type Values = [f64; ROWS];
 pub type Coordinates = [i32; COLUMNS];
 
 // What a record has beside its rows and columns.
-#[derive(Drop)]
+#[derive(Clone, Copy)]
 pub struct Heading {
     pub version: u16,
     pub rate: u32,

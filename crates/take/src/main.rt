@@ -1,5 +1,7 @@
 // Works a raw take through a circuit. Standard input has the circuit file and then the take; standard output gets the outputs and nothing
 // else. Standard error says in words why a circuit or a take is refused. An argument says how many samples are read and worked at a time.
+#![tactic(auto)]
+
 mod asked;
 
 ghost use Rattle.std.specs.Prelude.{◌+◌, ◌*◌, ◌/◌, ◌≤◌, ◌≡◌, length};
@@ -57,7 +59,7 @@ fn room_for(left: u8, read: usize) -> usize
 }
 
 // What a piece leaves: what the take carries on, whether the outputs could be written, and whether there may be more of the take to work.
-#[derive(Drop)]
+#[derive(Clone, Copy)]
 struct Worked {
     carried: Carried,
     written: bool,

@@ -6,7 +6,7 @@ ghost use Rattle.circuit.specs.File.{zeros};
 use circuit::{LEFT_LIMIT, SAMPLE_LENGTH};
 
 // They come first, with zeros after them.
-#[derive(Drop)]
+#[derive(Clone, Copy)]
 pub(crate) struct Rest {
     pub bytes: [u8; LEFT_LIMIT],
     pub count: u8,

@@ -1,4 +1,6 @@
 // A raw take through a circuit: samples of three bytes in, outputs of four bytes out, cut at any byte.
+#![tactic(auto)]
+
 ghost use Rattle.std.specs.Prelude.{◌≡◌, length};
 ghost use Rattle.circuit.specs.Run.{no_segment};
 ghost use Rattle.circuit.specs.Take.{take_of, fresh_take, feeding};

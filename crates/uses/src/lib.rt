@@ -1,5 +1,6 @@
 // The theorems, as promises of functions. Each function here is a use of the public ones, of any arguments at all, and what it promises
 // is a theorem about them.
+#![tactic(auto)]
 
 ghost use Rattle.std.specs.Prelude.{◌≡◌, cond, ◌<◌, ◌^◌, eqb, length};
 ghost use Rattle.circuit.specs.Numbers.{handed};

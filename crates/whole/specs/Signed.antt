@@ -36,7 +36,7 @@ to_z-u32 n h = to_z-narrow w64 n h (omega arith)
 
 -- what a call hands back, as it is read
 pub returned : (z : ℤ) → mag z < 2 ^ 63 → to_z w64 (of_z w64 z) ≡ z
-returned z h = to_z-of_z (record { sfits = h })
+returned z h = to_z-of_z {w = w64} (record { sfits = h })
 
 -- "of magnitude up to" is two comparisons
 pub within_test : (m : ℕ) (z : ℤ) → le_z (negsuc m) z && le_z z (pos (suc m)) ≡ leb (nat_abs z) (suc m)

@@ -1,5 +1,6 @@
 // Rules 4 to 7 of a record: whether it is a circuit at all, by its form, its rate, its tree and its values. The lowest number that applies is
 // handed back, with its place.
+#![tactic(auto)]
 
 ghost use Rattle.std.specs.Prelude.{◌≡◌, ◌≤◌, ◌<◌, List};
 ghost use Rattle.circuit.specs.Numbers.{handed, judge};

@@ -1,4 +1,6 @@
 // What an answer means, in a line of words.
+#![tactic(auto)]
+
 ghost use Rattle.std.specs.Prelude.{◌≤◌, ◌≡◌, length};
 ghost use Rattle.circuit.specs.Promises.{Explains};
 ghost use Rattle.words.specs.Numbered.{line_end, line, Begins};
