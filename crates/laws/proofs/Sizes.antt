@@ -1,12 +1,8 @@
 -- A record that code holds has the array lengths that its type gives: what owning it tells, field by field.
-use mathlib.Core.Path.{sym, ◌∙◌}
 use mathlib.Core.List.{List}
-use lib.ListN.{length-map}
 use mir.Val.{Val}
 use denote.Shadow.{shadow}
 use Rattle.circuit.specs.contracts.Record as Types
-use Rattle.circuit.specs.contracts.Row as Rows
-use Rattle.circuit.specs.contracts.Column as Columns
 use Rattle.circuit.specs.declared.Record.{Record}
 use Rattle.laws.specs.Accepted.{Sized}
 
@@ -14,7 +10,4 @@ pub sized : (r : Record) (vs : List Val) → shadow ((Types.the_row).own_val r v
 sized r vs h =
     let rows = h.1.1.1.1.1.1 in
     let columns = rows.1.1.1 in
-    record {
-      rows = sym (length-map r.rows (Rows.the_field).into) ∙ rows.0.1.0.1;
-      columns = sym (length-map r.columns (Columns.the_field).into) ∙ columns.0.1.0.1;
-    }
+    record { rows = rows.0.1.0.1; columns = columns.0.1.0.1 }
