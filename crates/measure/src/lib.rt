@@ -93,6 +93,7 @@ pub fn sound_column(kind: CurveKind, i: u8, before: Column, here: Column) -> boo
     }
 }
 
+#[tactic(auto, unfolding(circuit::specs::SetUp::leaf_resistance))]
 pub fn leaf_resistance(rate: u32, e: Element) -> f64
     ensures { result ≡ leaf_resistance rate e }
 {
@@ -105,6 +106,7 @@ pub fn leaf_resistance(rate: u32, e: Element) -> f64
     }
 }
 
+#[tactic(auto, unfolding(circuit::specs::SetUp::joined_resistance))]
 fn joined_resistance(join: Join, r1: f64, r2: f64) -> f64
     ensures { result ≡ joined_resistance join r1 r2 }
 {
@@ -114,6 +116,7 @@ fn joined_resistance(join: Join, r1: f64, r2: f64) -> f64
     }
 }
 
+#[tactic(auto, unfolding(circuit::specs::SetUp::quotient))]
 fn quotient_of(join: Join, r1: f64, r2: f64) -> f64
     ensures { result ≡ quotient join r1 r2 }
 {

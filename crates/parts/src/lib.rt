@@ -10,6 +10,7 @@ ghost use Rattle.parts.specs.Parts.{role_of, facing_of, turn_of, taken_out, part
 
 use circuit::{CurveKind, Element, Part, TOP, WAVE_LIMIT, Wave};
 
+#[tactic(auto, unfolding(crate::specs::Parts::role_of))]
 fn leaf_role(e: Element) -> u8
     ensures { result ≡ role_of (Leaf e) }
 {
@@ -23,6 +24,7 @@ fn leaf_role(e: Element) -> u8
 }
 
 // 0 is a reactive leaf, 1 another leaf, 2 the input, 3 an adaptor, 4 a blank row.
+#[tactic(auto, unfolding(crate::specs::Parts::role_of))]
 pub fn role_of(p: Part) -> u8
     ensures { result ≡ role_of p }
 {
@@ -33,6 +35,7 @@ pub fn role_of(p: Part) -> u8
     }
 }
 
+#[tactic(auto, unfolding(circuit::specs::Sample::sends))]
 fn sent(e: Element, stored: i32) -> i32
     ensures { (ρ : Rounding) → result ≡ sends (whole_waves ρ) (pos 0) stored e }
 {
@@ -116,6 +119,7 @@ pub fn tap_row(tap: u8, last: usize) -> usize
 }
 
 // Waves below this one are answered by the opposite of the answer to their opposite: of a pair all that are negative, of a single none.
+#[tactic(auto, unfolding(crate::specs::Parts::mirror_of))]
 pub fn mirror(kind: CurveKind) -> i64
     ensures { result ≡ mirror_of kind }
 {

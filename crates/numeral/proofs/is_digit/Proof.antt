@@ -1,7 +1,0 @@
--- `is_digit` meets its contract: its two tests are the definition's.
-use mathlib.Core.Path.{refl}
-use Rattle.numeral.proofs.is_digit.Statement.{statement}
-use Rattle.numeral.proofs.is_digit.Tie as tie
-
-pub is_digit_spec : {M : Type 1} → statement M
-is_digit_spec = tie.close (tie.spec (λ c. refl))
