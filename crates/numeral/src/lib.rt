@@ -52,6 +52,7 @@ fn value_of(digits: &[u8], most: u32) -> u32
 }
 
 // The number that digits stand for; one above `most` counts as `most`. What has another byte than digits, or none, is no number.
+#[tactic(auto, unfolding(crate::specs::Numeral::numeral))]
 pub fn read(digits: &[u8], most: u32) -> Numeral
     ensures { result ≡ numeral digits.now most }
 {

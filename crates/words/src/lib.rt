@@ -27,6 +27,16 @@ fn line_end(lines: &[u8], from: usize) -> usize
     i
 }
 
+// A text at the start of the buffer.
+fn copy(text: &[u8], out: &mut [u8]) -> usize
+    requires { length text.now ≤ length out.old }
+    ensures { Begins text.now out.old result out.new }
+{
+    let size = text.len();
+    out[..size].copy_from_slice(text);
+    size
+}
+
 // The line that has k lines before it, at the start of the buffer.
 fn put_line(out: &mut [u8], lines: &[u8], k: u64) -> usize
     requires { length (line lines.now k) ≤ length out.old }
@@ -37,7 +47,7 @@ fn put_line(out: &mut [u8], lines: &[u8], k: u64) -> usize
         from = line_end(lines, from);
     }
     let to = line_end(lines, from);
-    bytes::copy(&lines[from..to], out)
+    copy(&lines[from..to], out)
 }
 
 // The words at the start of `out`, and their length. The bytes after them stay as they were.
