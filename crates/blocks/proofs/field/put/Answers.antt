@@ -1,5 +1,5 @@
 -- A turn places byte i, and at the end all k are placed.
-use Rattle.std.proofs.Common.{◌≡◌, ℕ, ◌/◌, ◌%◌, ◌<◌, length, get_or, refl, sym, ap, ◌∙◌, zero-le, div-one, add-one, arith}
+use Rattle.std.proofs.Common.{◌≡◌, ℕ, ◌/◌, ◌%◌, ◌<◌, length, get_or, sym, ap, ◌∙◌, zero-le, div-one, add-one, arith}
 use lib.Seq.{paste-zero, paste-suc}
 use Rattle.circuit.specs.File.{bytes}
 use Rattle.blocks.proofs.Digits.{digit, digit_more, length_bytes}
