@@ -49,7 +49,7 @@ fn place(out: &mut [u8], at: usize, b: &[u8])
     requires { at + length b.now ≤ length out.old }
     ensures { out.new ≡ placed out.old at b.now }
 {
-    bytes::copy(b, &mut out[at..]);
+    out[at..at + b.len()].copy_from_slice(b);
 }
 
 // Block `k` of a file, with its check.

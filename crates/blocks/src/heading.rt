@@ -50,6 +50,7 @@ pub(crate) fn heading_block(r: Record) -> [u8; BLOCK_LENGTH]
     b
 }
 
+#[tactic(auto, unfolding(circuit::specs::File::record_of))]
 pub(crate) fn record_of(s: &[u8]) -> Record
     requires { length s.now ≡ file_length }
     ensures { result ≡ record_of s.now }

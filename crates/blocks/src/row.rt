@@ -97,6 +97,7 @@ fn join_number(k: Join) -> u8
     }
 }
 
+#[tactic(auto, unfolding(circuit::specs::File::bytes, circuit::specs::File::part_fields))]
 fn put_part(b: &mut [u8], at: usize, part: Part, mark: u8)
     requires { at + row_length ≤ length b.old }
     ensures { b.new ≡ placed b.old at (part_fields part mark) }

@@ -48,6 +48,7 @@ fn are_clear_rows(s: &[u8]) -> bool
 }
 
 // Whether every byte that nothing uses is zero, and the curve's kind is in its list.
+#[tactic(auto, unfolding(circuit::specs::File::clear_file))]
 fn is_clear_file(s: &[u8]) -> bool
     requires { length s.now ≡ file_length }
     ensures { result ≡ clear_file s.now }
