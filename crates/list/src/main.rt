@@ -2,33 +2,37 @@
 #![tactic(auto)]
 
 use circuit::{Answer, FILE_LENGTH};
-use libc::{STDERR_FILENO, STDIN_FILENO, STDOUT_FILENO};
+use std::io;
+use streams::read_full;
 
-fn say(words: &[u8]) {
-    io::write_all(STDERR_FILENO, words);
+fn say<P: Print>(to: &P, words: &[u8]) -> io::Result<()> {
+    to.write_all(words)
 }
 
-fn say_refusal(a: Answer) {
+fn say_refusal<P: Print>(to: &P, a: Answer) -> io::Result<()> {
     if a.number() != 0 {
-        say(b"list: ");
+        say(to, b"list: ")?;
         let mut line = [0u8; words::ROOM];
         let length = words::explain(a, &mut line);
-        say(&line[..length]);
+        say(to, &line[..length])?;
     }
+    Ok(())
 }
 
 // One byte more than a file has is room enough to tell an input that is too long.
-fn main() {
+fn main(rt: HostRuntime) -> io::Result<()> {
     let mut bytes = [0u8; FILE_LENGTH + 1];
-    let count = io::read_full(STDIN_FILENO, &mut bytes);
+    let count = read_full(&mut rt.reader(), &mut bytes)?;
     let mut text = [0u8; listing::ROOM];
     let listed = listing::list(&bytes[..count], &mut text);
     let length = listed.length;
-    io::write_all(STDOUT_FILENO, &text[..length]);
+    rt.write_all(&text[..length])?;
     if count == 0 {
-        say(b"usage: list < FILE, where FILE is a circuit file\n");
+        say(
+            &rt.stderr(),
+            b"usage: list < FILE, where FILE is a circuit file\n",
+        )
     } else {
-        let answer = listed.answer;
-        say_refusal(answer);
+        say_refusal(&rt.stderr(), listed.answer)
     }
 }

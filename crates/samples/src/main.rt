@@ -2,35 +2,45 @@
 #![tactic(auto)]
 
 use circuit::FILE_LENGTH;
-use libc::STDOUT_FILENO;
 use listing::ROOM;
+use std::alloc::AllocError;
+use std::fs::File;
+use std::{env, fs, io};
+use streams::read_full;
+
+// The system's words for what failed, without its number.
+fn reason(alloc: Global, error: io::Error) -> Result<String, AllocError> {
+    let text = format!(in alloc; "{error}")?;
+    let words = match text.as_str().split_once(" (os error ") {
+        Some((words, _)) => String::from_str(alloc, words)?,
+        None => text,
+    };
+    Ok(words)
+}
 
 // One byte more than a file has is room enough to tell an input that is too long.
-fn list_file(name: &[u8]) {
-    let file = os::open_read(name);
-    if file < 0 {
-        os::fail(name);
-        return;
-    }
+fn list_file(rt: &HostRuntime, name: &str) -> io::Result<()> {
+    let mut file = match File::open(rt, name) {
+        Ok(file) => file,
+        Err(error) => {
+            let why = reason(rt.alloc(), error)?;
+            return eprintln!(rt; "{name}: {why}");
+        }
+    };
     let mut bytes = [0u8; FILE_LENGTH + 1];
-    let count = io::read_full(file, &mut bytes);
-    libc::close(file);
-    io::write_all(STDOUT_FILENO, name);
-    io::write_all(STDOUT_FILENO, b"\n");
+    let count = read_full(&mut file, &mut bytes)?;
+    rt.println(name)?;
     let mut text = [0u8; ROOM];
     let listed = listing::list(&bytes[..count], &mut text);
     let length = listed.length;
-    io::write_all(STDOUT_FILENO, &text[..length]);
+    rt.write_all(&text[..length])
 }
 
-fn list_argument(i: usize) {
-    let mut name = io::buffer();
-    let length = os::arg(i, &mut name);
-    list_file(&name[..length]);
-}
-
-fn main() {
-    for i in 1..os::arg_count() {
-        list_argument(i);
+fn main(rt: HostRuntime) -> io::Result<()> {
+    for (i, name) in env::args(&rt)?.enumerate() {
+        if 0 < i {
+            list_file(&rt, name.as_str())?;
+        }
     }
+    Ok(())
 }
