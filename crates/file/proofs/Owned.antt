@@ -1,8 +1,8 @@
--- What owning a record tells, in the words of `Held`. The facts are the type's own, field by field; a caller has them as `start.good`.
+-- What owning a record tells, in the words of `Held`. The facts are the type's own, field by field; a caller has them as `c.well_formed`.
 use mathlib.Core.Path.{◌≡◌, sym, subst}
 use Prim.Native.Nat.{ℕ, zero, suc}
 use mathlib.Core.Bool.{true}
-use mathlib.Core.List.{List, [], ◌∷◌, map}
+use mathlib.Core.List.{List, [], ◌∷◌}
 use lib.Dec.{T, lit<}
 use lib.ListN.{get_or}
 use lib.IntN.{pos}
@@ -58,8 +58,8 @@ origin_held = record { x = record { sfits = lit< tt }; y = record { sfits = lit<
 -- ---- arrays
 
 -- what owning an element tells of it, of every element of an array that is owned, and of z past its end
-module _ {A D : Type 0} (own : D → List Val → Fml) (into : A → D) (P : A → Type 0) (told : (a : A) (vs : List Val) → shadow (own (into a) vs) → P a) (z : A) (past : P z) where
-  each_held : (xs : List A) (us : List Val) → shadow (each D own (map into xs) us) → (j : ℕ) → P (get_or xs j z)
+module _ {A : Type 0} (own : A → List Val → Fml) (P : A → Type 0) (told : (a : A) (vs : List Val) → shadow (own a vs) → P a) (z : A) (past : P z) where
+  each_held : (xs : List A) (us : List Val) → shadow (each A own xs us) → (j : ℕ) → P (get_or xs j z)
   each_held [] us h j = past
   each_held (x ∷ xs) [] h j = absurd h
   each_held (x ∷ xs) (u ∷ us) h zero = told x (u ∷ []) h.0
@@ -83,6 +83,6 @@ held r vs h =
       tap = tap.0.1;
       width = kind.1.0.1;
       resistance = float_held r.resistance columns.1.0.1;
-      parts = each_held (Rows.the_field).row.own_val (Rows.the_field).into (λ w. HeldPart w.part) row_held blank_row tt r.rows tap.1.0.0 tap.1.0.1.1;
-      columns = each_held (Columns.the_field).row.own_val (Columns.the_field).into HeldColumn column_held (record { x = pos 0; y = pos 0 }) origin_held r.columns columns.0.0 columns.0.1.1;
+      parts = each_held (Rows.the_row).own_val (λ w. HeldPart w.part) row_held blank_row tt r.rows tap.1.0.0 tap.1.0.1.1;
+      columns = each_held (Columns.the_row).own_val HeldColumn column_held (record { x = pos 0; y = pos 0 }) origin_held r.columns columns.0.0 columns.0.1.1;
     }

@@ -8,6 +8,7 @@ ghost use Rattle.listing.specs.Lines.{ending, row_lines};
 use crate::text::{put_number, put_text};
 use circuit::{Adaptor, Element, Join, Part, Prepared, ROWS, Record};
 
+#[tactic(auto, unfolding(circuit::specs::Text::text))]
 fn put_element(out: &mut [u8], at: usize, e: Element) -> usize
     requires { at + name_room ≤ length out.old }
     ensures { Puts name_room (element_name e) at out.old result out.new }
@@ -21,6 +22,7 @@ fn put_element(out: &mut [u8], at: usize, e: Element) -> usize
     }
 }
 
+#[tactic(auto, unfolding(circuit::specs::Text::text))]
 fn put_join(out: &mut [u8], at: usize, k: Join) -> usize
     requires { at + name_room ≤ length out.old }
     ensures { Puts name_room (join_name k) at out.old result out.new }

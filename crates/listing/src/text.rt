@@ -19,7 +19,8 @@ pub(crate) fn put_text(out: &mut [u8], at: usize, t: &[u8]) -> usize
     requires { at + length t.now ≤ length out.old }
     ensures { Puts (length t.now) t.now at out.old result out.new }
 {
-    at + bytes::copy(t, &mut out[at..])
+    out[at..at + t.len()].copy_from_slice(t);
+    at + t.len()
 }
 
 // The last k decimal digits of n, with no zero in front.
