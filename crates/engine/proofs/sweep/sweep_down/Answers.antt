@@ -1,5 +1,5 @@
 -- A turn sends what the adaptor sends down, and at the end all have sent.
-use Rattle.std.proofs.Common.{◌≡◌, ℕ, ◌+◌, ◌-◌, ◌<◌, Bool, true, false, cond, ℤ, nat_abs, ◌∙◌, w64, to_z, of_z, arith}
+use Rattle.std.proofs.Common.{◌≡◌, ℕ, ◌-◌, ◌<◌, Bool, true, false, cond, ℤ, nat_abs, ◌∙◌, w64, to_z, of_z, arith}
 use Rattle.whole.specs.Signed.{returned}
 use Rattle.circuit.specs.Record.{row_limit}
 use Rattle.circuit.specs.Sample.{stored_at}

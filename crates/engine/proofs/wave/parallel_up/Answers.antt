@@ -15,9 +15,9 @@ returns-then-inward c =
     let a = c.args in
     let m = up_fits c.requires in
     let told =
-        rw (to_z-of_z c.ranges.g, to_z-of_z m.0, to_z-of_z m.1, to_z-of_z m.4) at c.mixed.ensures
-        ∙ ap (λ g. quot_z (pos parts *ℤ a.a2 +ℤ g *ℤ (a.a1 -ℤ a.a2)) (pos parts)) c.requires.ratio.whole
-        ∙ sym (u_to_zero (nat_abs a.g) a.a1 a.a2) in
+    rw (to_z-of_z c.ranges.g, to_z-of_z m.0, to_z-of_z m.1, to_z-of_z m.4) at c.mixed.ensures
+    ∙ ap (λ g. quot_z (pos parts *ℤ a.a2 +ℤ g *ℤ (a.a1 -ℤ a.a2)) (pos parts)) c.requires.ratio.whole
+    ∙ sym (u_to_zero (nat_abs a.g) a.a1 a.a2) in
     rw c.if-inward.true (returned _ c.mixed.type_inv ∙ told)
 
 -- ---- down

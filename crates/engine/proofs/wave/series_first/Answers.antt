@@ -24,8 +24,8 @@ pub returns-then-inward : goal.returns-then-inward
 returns-then-inward c a2 a3 e =
     let a = c.args in
     let told =
-        rw (to_z-of_z c.ranges.g, to_z-of_z c.ranges.a1, to_z-of_z c.ranges.t, to_z-of_z (opposite c.requires.2)) at c.mixed.ensures
-        ∙ ap (λ g. quot_z (pos parts *ℤ a.a1 +ℤ g *ℤ (pos 0 -ℤ a.t)) (pos parts)) c.requires.0.whole in
+    rw (to_z-of_z c.ranges.g, to_z-of_z c.ranges.a1, to_z-of_z c.ranges.t, to_z-of_z (opposite c.requires.2)) at c.mixed.ensures
+    ∙ ap (λ g. quot_z (pos parts *ℤ a.a1 +ℤ g *ℤ (pos 0 -ℤ a.t)) (pos parts)) c.requires.0.whole in
     rw c.if-inward.true
     (returned _ c.mixed.type_inv ∙ told ∙ ap (mixed (nat_abs a.g) a.a1) (+ℤ_idl _ ∙ ap neg_ℤ e) ∙ sym (b1_to_zero (nat_abs a.g) a.a1 a2 a3))
 
