@@ -1,6 +1,6 @@
 -- The case of 24 bits of the law over the width.
-use Rattle.std.proofs.Common.{◌≡◌, true, ◌∙◌, arith}
-use lib.Ieee.{Float, of_bits, of_int, lt}
+use Rattle.std.proofs.Common.{◌∙◌, arith}
+use lib.Ieee.{of_bits, of_int}
 use Rattle.circuit.specs.SetUp.{parts, scaled_down}
 use Rattle.measure.proofs.Width.{Truncates, proper_below, truncates, truncates_none}
 use Rattle.measure.proofs.whole_part.Goals as goal

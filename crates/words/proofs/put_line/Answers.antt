@@ -1,7 +1,7 @@
 -- The line that begins where the last turn has come to is copied.
-use Rattle.std.proofs.Common.{◌≡◌, ◌≤◌, ◌-◌, length, refl, ap, ◌∙◌, add-one, arith}
-use Rattle.laws.proofs.Looping.{onward, whole}
-use Rattle.words.specs.Numbered.{line_start, line_end, line}
+use Rattle.std.proofs.Common.{refl, ap, ◌∙◌, add-one, arith}
+use Rattle.laws.proofs.Looping.{onward}
+use Rattle.words.specs.Numbered.{line_start, line_end}
 use Rattle.words.proofs.Numbered.{line_inside}
 use Rattle.words.proofs.put_line.Goals as goal
 
