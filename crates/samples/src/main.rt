@@ -3,10 +3,13 @@
 
 use circuit::FILE_LENGTH;
 use listing::ROOM;
-use std::alloc::AllocError;
+use std::alloc::{AllocError, Global};
 use std::fs::File;
-use std::{env, fs, io};
-use streams::read_full;
+use std::io;
+use streams::{argument, read_full};
+
+// Room for any path.
+const LONGEST_NAME: usize = 4096;
 
 // The system's words for what failed, without its number.
 fn reason(alloc: Global, error: io::Error) -> Result<String, AllocError> {
@@ -36,11 +39,24 @@ fn list_file(rt: &HostRuntime, name: &str) -> io::Result<()> {
     rt.write_all(&text[..length])
 }
 
-fn main(rt: HostRuntime) -> io::Result<()> {
-    for (i, name) in env::args(&rt)?.enumerate() {
-        if 0 < i {
-            list_file(&rt, name.as_str())?;
+// A path is text here: bytes that are no UTF-8 name no file.
+fn list_named(rt: &HostRuntime, name: &[u8]) -> io::Result<()> {
+    match str::from_utf8(name) {
+        Ok(name) => list_file(rt, name),
+        Err(_) => {
+            rt.stderr().write_all(name)?;
+            rt.stderr().write_all(b": not UTF-8\n")
         }
+    }
+}
+
+fn main(rt: HostRuntime) -> io::Result<()> {
+    let mut name = [0u8; LONGEST_NAME];
+    for i in 1..usize::MAX {
+        let Some(length) = argument(&rt, i, &mut name) else {
+            break;
+        };
+        list_named(&rt, &name[..length])?;
     }
     Ok(())
 }

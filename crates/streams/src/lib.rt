@@ -1,8 +1,9 @@
-// What the programs share of their input.
+// What the programs share of their input: bytes and arguments.
 #![tactic(auto)]
 
-ghost use Rattle.std.specs.Prelude.{◌≡◌, ◌≤◌, length, IfOk};
+ghost use Rattle.std.specs.Prelude.{◌≡◌, ◌≤◌, length, IfOk, IfSome};
 
+use std::env::{Env, FillError};
 use std::io;
 use std::io::Read;
 
@@ -20,4 +21,17 @@ pub fn read_full<R: Read>(from: &mut R, bytes: &mut [u8]) -> io::Result<usize>
         count += more;
     }
     Ok(count)
+}
+
+// The program's argument i, of which the first is the program's own name, at the start of the buffer: how many bytes it has, or `None` where
+// there is no such argument. One that is longer than the buffer counts as empty.
+pub fn argument<E: Env>(from: &E, i: usize, bytes: &mut [u8]) -> Option<usize>
+    ensures inside { IfSome result (λ n. n ≤ length bytes.new) }
+    ensures size { length bytes.new ≡ length bytes.old }
+{
+    match from.arg(i, bytes) {
+        Ok(count) => Some(count),
+        Err(FillError::TooLong) => Some(0),
+        Err(FillError::NotPresent) => None,
+    }
 }
