@@ -84,7 +84,7 @@ module _ {inward : Bool} {js : Joints} {n : ℕ} (s : Swept inward js n) where
         part = at.part;
         place = at.place ∙ sym o;
         join = e ∙ at.join;
-        child = λ side. elim side [ true ↦ f ∙ at.first | false ↦ h ∙ at.second ];
+        child = λ side. elim side as (λ k. cond k first second ≡ slot_of r (child_of at.joint k)) [ true ↦ f ∙ at.first | false ↦ h ∙ at.second ];
         ratio = weight ∙ at.ratio;
       }
 
