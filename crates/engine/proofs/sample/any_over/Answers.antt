@@ -1,5 +1,5 @@
 -- A turn tests the wave in slot s.
-use Rattle.std.proofs.Common.{◌≡◌, Bool, true, false, List, ℤ, pos, get_or, w64, FitsSigned, to_z, of_z, refl, sym, ap, ◌∙◌, arith, rules}
+use Rattle.std.proofs.Common.{◌≡◌, ℕ, Bool, List, ℤ, w64, FitsSigned, to_z, of_z, refl, sym, ap, ◌∙◌, arith, rules}
 use mathlib.Core.Bool.{not}
 use mir.ValLaws.{to_z-of_z}
 use Rattle.circuit.specs.Counting.{some, within}
