@@ -75,7 +75,7 @@ module _ {inward : Bool} {js : Joints} {n : ℕ} (s : Swept inward js n) where
   pub turn : {k own : ℕ} → k < n → own ≡ suc floor + k → {j : Join} {first second : ℕ} {g : ℤ}
       → j ≡ join_of (get_or js.joins k 0) → first ≡ get_or js.firsts k 0 → second ≡ get_or js.seconds k 0 → g ≡ get_or js.ratios k (pos 0)
       → Turn r own j (λ side. cond side first second) g
-  turn {k} l o e f h weight =
+  turn {k} l o {first = first} {second = second} e f h weight =
       let at = staged k (omega (arith, all)) in
       record {
         row = at.row;
