@@ -32,6 +32,7 @@ fn sound_wave(p: Part, w: i32) -> bool
 }
 
 // The lowest row at fault; blank rows are looked at too.
+#[tactic(auto, unfolding(circuit::specs::Numbers::handed))]
 fn stored_waves(cells: &Cells, microvolts: &Microvolts, values: &Values, state: State) -> Answer
     ensures { handed result ≡ numbered 12 (lowest (λ j. not (sound_wave
         (part_in cells.now microvolts.now values.now j) (stored_at state.waves j))) row_limit) }

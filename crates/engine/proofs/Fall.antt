@@ -27,7 +27,7 @@ use Rattle.engine.specs.Plan.{floor, slot_of, top_slot, Joints}
 use Rattle.engine.specs.Sweep.{rises, Risen, Swept, Modest, Drops, Reached}
 use Rattle.engine.proofs.Range.{sends_to, down_range}
 use Rattle.engine.proofs.Turn.{child_of, child_there, child_under, parent_is, same_row, adaptor_slot, Turn}
-use Rattle.engine.proofs.Turn.{child_inside, own_slot, child_slot, slots_apart, slot_inside, rises_range, few, both_few}
+use Rattle.engine.proofs.Turn.{child_inside, own_slot, child_slot, slots_apart, slot_inside, rises_range, both_few}
 use Rattle.engine.proofs.Turn.{wave_right, sends_right, below}
 
 -- ---- what holds of every wave, and of one that is stored, holds of every wave afterwards

@@ -39,6 +39,7 @@ fn lowest_column(h: Heading, xs: &Coordinates, ys: &Coordinates) -> Answer
     Answer::Done
 }
 
+#[tactic(auto, unfolding(circuit::specs::Counting::some))]
 fn has_origin(width: usize, xs: &Coordinates, ys: &Coordinates) -> bool
     requires { width ≤ column_limit }
     ensures { result ≡ some (λ i. at_origin (column_in xs.now ys.now i)) width }

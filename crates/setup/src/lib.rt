@@ -128,6 +128,7 @@ pub fn set_up(r: Record) -> SetUp
 }
 
 // Every stored wave is 0.
+#[tactic(auto, unfolding(circuit::specs::Run::fresh_waves))]
 pub fn fresh() -> State
     ensures { result.waves ≡ fresh_waves }
 {

@@ -16,6 +16,7 @@ use measure::{fits_top, in_range, joined, leaf_resistance, ratio_fault};
 use sheet::{Cells, Heading, Microvolts, Values, part_in};
 
 // A row from the resistances of the rows below it.
+#[tactic(auto, unfolding(laws::specs::Accepted::Lower, crate::specs::Rows::prepared_from))]
 fn prepared_row(rate: u32, p: Part, resistances: &[f64; ROWS]) -> Prepared
     requires { Lower row_limit p }
     ensures { result ≡ prepared_from rate p resistances.now }
@@ -41,6 +42,7 @@ fn prepared_row(rate: u32, p: Part, resistances: &[f64; ROWS]) -> Prepared
 }
 
 // From the lowest row up: an adaptor's children are lower than it. Rows past the count are blank, and keep their zeros.
+#[tactic(auto, unfolding(circuit::specs::Counting::table))]
 pub(crate) fn fill_ports(
     h: Heading,
     cells: &Cells,
@@ -65,6 +67,7 @@ pub(crate) fn fill_ports(
     }
 }
 
+#[tactic(auto, unfolding(circuit::specs::Counting::table))]
 pub(crate) fn prepared_rows(resistances: &[f64; ROWS], ratios: &[u32; ROWS]) -> [Prepared; ROWS]
     ensures { result ≡ rows_by resistances.now ratios.now }
 {
@@ -78,6 +81,7 @@ pub(crate) fn prepared_rows(resistances: &[f64; ROWS], ratios: &[u32; ROWS]) -> 
     rows
 }
 
+#[tactic(auto, unfolding(circuit::specs::Numbers::handed))]
 pub(crate) fn resistance_rule(count: u8, resistances: &[f64; ROWS]) -> Answer
     requires { count ≤ row_limit }
     ensures { handed result ≡ numbered 8 (lowest (λ j. not (in_range (get_or resistances.now j nan))) count) }
@@ -90,6 +94,7 @@ pub(crate) fn resistance_rule(count: u8, resistances: &[f64; ROWS]) -> Answer
     Answer::Done
 }
 
+#[tactic(auto, unfolding(circuit::specs::Numbers::handed))]
 pub(crate) fn ratio_rule(
     count: u8,
     cells: &Cells,
@@ -111,6 +116,7 @@ pub(crate) fn ratio_rule(
     Answer::Done
 }
 
+#[tactic(auto, unfolding(circuit::specs::Numbers::handed))]
 pub(crate) fn curve_resistance_rule(q: f64, top: f64) -> Answer
     ensures { handed result ≡ numbered 11 (unless (fits q top) 0) }
 {

@@ -1,3 +1,2 @@
 pub mod Counts
 pub mod Judged
-pub mod PartKinds

@@ -45,6 +45,7 @@ fn has_counts(h: Heading) -> bool
 }
 
 // Rows past the count are blank, and no other row is; no row but a leaf is reversed. This asks for the kinds' numbers, which is quicker than for parts.
+#[tactic(auto, unfolding(circuit::specs::Counting::every))]
 fn rows_in_form(count: usize, cells: &Cells) -> bool
     ensures { (microvolts : List ℤ) (values : List Float)
         → result ≡ every (λ j. in_form count j (row_in (rows_in cells.now microvolts values) j)) row_limit }
@@ -93,6 +94,7 @@ pub(crate) fn form_rule(
     }
 }
 
+#[tactic(auto, unfolding(circuit::specs::Numbers::handed))]
 pub(crate) fn rate_rule(rate: u32) -> Answer
     ensures { handed result ≡ numbered 5 (unless (between lowest_rate highest_rate rate) 0) }
 {

@@ -23,6 +23,7 @@ fn not_lower(j: u8, p: Part) -> bool
     }
 }
 
+#[tactic(auto, unfolding(circuit::specs::Numbers::handed))]
 pub(crate) fn children_rule(
     count: u8,
     cells: &Cells,
@@ -75,6 +76,7 @@ fn use_children(uses: &mut [u8; ROWS], p: Part)
 }
 
 // How often each row is a child, by one look at each row.
+#[tactic(auto, unfolding(crate::specs::Uses::uses_in))]
 fn uses(count: usize, cells: &Cells, microvolts: &Microvolts, values: &Values) -> [u8; ROWS]
     requires { count ≤ row_limit }
     ensures { (k : ℕ) → k < row_limit → get_or result k 0 ≡ min 2 (total (λ j. names
@@ -115,6 +117,7 @@ fn one_if(b: bool) -> usize
     if b { 1 } else { 0 }
 }
 
+#[tactic(auto, unfolding(circuit::specs::Counting::total))]
 fn inputs(count: usize, cells: &Cells, microvolts: &Microvolts, values: &Values) -> usize
     requires { count ≤ row_limit }
     ensures { result ≡ total (λ j. one (is_input (part_in cells.now microvolts.now values.now j))) count }

@@ -1,11 +1,10 @@
 -- The line that the search picks is worked out: nothing wraps, and `/` rounds toward zero as the definition does. The number of the line is the
 -- segment, and fits a byte.
-use Rattle.std.proofs.Common.{◌≡◌, ℕ, ◌≤◌, List, [], get_or, ℤ, to_z-of_z, arith}
-use Rattle.whole.specs.Order.{Abs}
+use Rattle.std.proofs.Common.{◌≡◌, ◌≤◌, [], get_or, to_z-of_z, arith}
 use Rattle.whole.specs.Signed.{to_z-u32}
 use Rattle.whole.specs.Fraction.{whole}
 use Rattle.circuit.specs.Record.{column_limit}
-use Rattle.circuit.specs.Curve.{wave_limit, passed, drawn, toward_zero}
+use Rattle.circuit.specs.Curve.{passed, drawn, toward_zero}
 use Rattle.circuit.specs.declared.Record.{Record}
 use Rattle.laws.proofs.Segments.{passed_most}
 use Rattle.engine.specs.Curve.{Drawing}

@@ -17,9 +17,6 @@ loop-i-init c =
     let begun = laid_last h c.args.lines.now c.requires.1 c.last_line-l.ensures in
     (h, laid_more begun (omega arith) (omega arith) c.first_line-l.ensures)
 
-pub line_to-l-requires : goal.line_to-l-requires
-line_to-l-requires c = (omega arith, (_, c.loop-i.invariant.0, omega arith))
-
 pub loop-i-preserved : goal.loop-i-preserved
 loop-i-preserved c =
     let inv = c.loop-i.invariant in

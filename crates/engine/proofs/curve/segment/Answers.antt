@@ -26,12 +26,6 @@ loop-middle-init c =
 few : (c : goal.At-loop-middle) → (c.loop-middle.low + c.loop-middle.high) / 2 < line_limit
 few c = let d = c.requires.0.1 in let inv = c.loop-middle.invariant in omega (arith, d.many, d.narrow, inv.0, inv.1)
 
-pub overflow_add-middle : goal.overflow_add-middle
-overflow_add-middle c = omega (arith, few c)
-
-pub offset_bounds-lines-middle : goal.offset_bounds-lines-middle
-offset_bounds-lines-middle c = omega (arith, few c)
-
 pub bounds-lines-middle : goal.bounds-lines-middle
 bounds-lines-middle c = few c
 

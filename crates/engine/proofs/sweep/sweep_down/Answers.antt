@@ -1,40 +1,17 @@
 -- A turn sends what the adaptor sends down, and at the end all have sent.
-use Rattle.std.proofs.Common.{◌≡◌, ℕ, ◌+◌, ◌-◌, ◌<◌, Bool, true, false, cond, ℤ, nat_abs, ◌∙◌, w64, to_z, of_z, arith}
+use Rattle.std.proofs.Common.{◌≡◌, ℕ, ◌<◌, Bool, true, false, cond, ℤ, ◌∙◌, w64, to_z, of_z, arith}
 use Rattle.whole.specs.Signed.{returned}
 use Rattle.circuit.specs.Record.{row_limit}
 use Rattle.circuit.specs.Sample.{stored_at}
-use Rattle.laws.specs.Accepted.{adaptor_limit}
-use Rattle.engine.specs.Wave.{way}
-use Rattle.engine.specs.Plan.{floor, joints_of}
+use Rattle.engine.specs.Plan.{joints_of}
 use Rattle.engine.specs.Sweep.{Swept}
-use Rattle.engine.proofs.Range.{sends_to}
 use Rattle.engine.proofs.Turn.{Turn, turn, slot_inside}
 use Rattle.engine.proofs.Fall.{falling_begun, beneath, fallen, reached}
 use Rattle.engine.proofs.sweep.sweep_down.Goals as goal
-use Rattle.engine.proofs.sweep.sweep_down.Goals.{In-loop-slot, After-ratio_at, After-wave_at-in-loop-slot}
+use Rattle.engine.proofs.sweep.sweep_down.Goals.{After-ratio_at, After-wave_at-in-loop-slot}
 
 pub loop-slot-init : goal.loop-slot-init
 loop-slot-init c = (omega arith, falling_begun)
-
--- a turn's own slot, and the adaptor's place
-module _ (c : In-loop-slot) where
-  own_inside : c.loop-slot.slot < row_limit
-  own_inside = let s = c.requires.swept in omega (arith, c.loop-slot.invariant.0, s.all, s.slotted.few)
-
-  few : c.loop-slot.slot - floor - 1 < adaptor_limit
-  few = omega (arith, own_inside, c.loop-slot-test.true)
-
-pub child_at-first-requires : goal.child_at-first-requires
-child_at-first-requires c = few (goal.at.child_at-first-requires c).In-loop-slot
-
-pub child_at-second-requires : goal.child_at-second-requires
-child_at-second-requires c = few (goal.at.child_at-second-requires c).In-loop-slot
-
-pub join_at-requires : goal.join_at-requires
-join_at-requires c = few (goal.at.join_at-requires c).In-loop-slot
-
-pub ratio_at-requires : goal.ratio_at-requires
-ratio_at-requires c = few (goal.at.ratio_at-requires c).In-loop-slot
 
 -- its adaptor
 module _ (c : After-ratio_at) where
@@ -55,12 +32,6 @@ wave_at-requires c = inside (goal.at.wave_at-requires c).After-ratio_at true
 
 pub wave_at-requires-in-loop-slot : goal.wave_at-requires-in-loop-slot
 wave_at-requires-in-loop-slot c = inside (goal.at.wave_at-requires-in-loop-slot c).After-ratio_at false
-
-pub wave_at-requires-in-loop-slot-2 : goal.wave_at-requires-in-loop-slot-2
-wave_at-requires-in-loop-slot-2 c = own_inside (goal.at.wave_at-requires-in-loop-slot-2 c).In-loop-slot
-
-pub wave_at-requires-in-loop-slot-3 : goal.wave_at-requires-in-loop-slot-3
-wave_at-requires-in-loop-slot-3 c = own_inside (goal.at.wave_at-requires-in-loop-slot-3 c).In-loop-slot
 
 pub put_wave-requires : goal.put_wave-requires
 put_wave-requires c = inside (goal.at.put_wave-requires c).After-ratio_at true
@@ -84,14 +55,19 @@ sends_down-b-requires c =
     beneath p.swept (seen at.After-ratio_at p.swept) (c.loop-slot.invariant.1 p) p.risen (hears at.After-wave_at-in-loop-slot)
     c.wave_at-in-loop-slot-3.ensures c.wave_at-in-loop-slot-2.ensures
 
+-- what is sent to each side
+sides : (f : Bool → ℤ) {a b : ℤ} → a ≡ f true → b ≡ f false → (side : Bool) → cond side a b ≡ f side
+sides f e h true = e
+sides f e h false = h
+
 pub loop-slot-preserved : goal.loop-slot-preserved
 loop-slot-preserved c =
     let at = goal.at.loop-slot-preserved c in
     let b = c.sends_down-b in (
       omega (arith, c.loop-slot.invariant.0),
       λ p. rw (c.put_wave-in-loop-slot.ensures, c.put_wave.ensures)
-          (fallen p.swept (seen at.After-ratio_at p.swept) (c.loop-slot.invariant.1 p) p.risen (hears at.After-wave_at-in-loop-slot) c.wave_at-in-loop-slot-3.ensures
-          (λ side. cond side b.result.first.0 b.result.second.0) (λ side. elim side as (λ k. cond k b.result.first.0 b.result.second.0 ≡ sends_to (way c.args.inward) k c.join_at.result (nat_abs (to_z w64 (of_z w64 c.ratio_at.result))) c.wave_at.result.0 c.wave_at-in-loop-slot.result.0 c.wave_at-in-loop-slot-3.result.0) [ true ↦ b.ensures.first | false ↦ b.ensures.second ])
+          (fallen p.swept (seen at.After-ratio_at p.swept) (c.loop-slot.invariant.1 p) p.risen (hears at.After-wave_at-in-loop-slot)
+          c.wave_at-in-loop-slot-3.ensures (λ side. cond side b.result.first.0 b.result.second.0) (sides _ b.ensures.first b.ensures.second)
           (omega (arith, c.loop-slot-test.true))),
     )
 

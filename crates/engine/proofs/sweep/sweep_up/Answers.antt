@@ -9,9 +9,6 @@ use Rattle.engine.proofs.Turn.{Turn, turn, slot_inside, below, climbed}
 use Rattle.engine.proofs.sweep.sweep_up.Goals as goal
 use Rattle.engine.proofs.sweep.sweep_up.Goals.{After-ratio_at, After-wave_at-in-loop-k}
 
-pub loop-k-init : goal.loop-k-init
-loop-k-init c = λ p. p.begun
-
 -- a turn's adaptor
 module _ (c : After-ratio_at) where
   abbrev slots : Bool → ℕ

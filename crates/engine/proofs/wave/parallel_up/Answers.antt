@@ -3,22 +3,23 @@ use Rattle.std.proofs.Common.{◌≡◌, false, pos, ◌+ℤ◌, ◌-ℤ◌, ◌
 use lib.Signed.{quot_z}
 use Rattle.whole.specs.Signed.{returned}
 use Rattle.circuit.specs.SetUp.{parts}
-use Rattle.circuit.specs.Sample.{h}
+use Rattle.circuit.specs.Sample.{h, rounded_to_zero}
 use Rattle.laws.proofs.Roundings.{u_to_zero}
 use Rattle.engine.proofs.Range.{up_fits, parallel_fits}
 use Rattle.engine.proofs.wave.parallel_up.Goals as goal
 
 -- ---- toward zero
 
-pub returns-then-inward : goal.returns-then-inward
-returns-then-inward c =
+mixed_is : (c : goal.After-mixed) → c.mixed.result ≡ rounded_to_zero.u (nat_abs c.args.g) c.args.a1 c.args.a2
+mixed_is c =
     let a = c.args in
     let m = up_fits c.requires in
-    let told =
-        rw (to_z-of_z c.ranges.g, to_z-of_z m.0, to_z-of_z m.1, to_z-of_z m.4) at c.mixed.ensures
-        ∙ ap (λ g. quot_z (pos parts *ℤ a.a2 +ℤ g *ℤ (a.a1 -ℤ a.a2)) (pos parts)) c.requires.ratio.whole
-        ∙ sym (u_to_zero (nat_abs a.g) a.a1 a.a2) in
-    rw c.if-inward.true (returned _ c.mixed.type_inv ∙ told)
+    rw (to_z-of_z c.ranges.g, to_z-of_z m.0, to_z-of_z m.1, to_z-of_z m.4) at c.mixed.ensures
+    ∙ ap (λ g. quot_z (pos parts *ℤ a.a2 +ℤ g *ℤ (a.a1 -ℤ a.a2)) (pos parts)) c.requires.ratio.whole
+    ∙ sym (u_to_zero (nat_abs a.g) a.a1 a.a2)
+
+pub returns-then-inward : goal.returns-then-inward
+returns-then-inward c = rw c.if-inward.true (returned _ c.mixed.type_inv ∙ mixed_is c)
 
 -- ---- down
 
