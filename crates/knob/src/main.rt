@@ -4,12 +4,16 @@
 #![tactic(auto)]
 
 use circuit::{Answer, FILE_LENGTH};
-use libc::{STDERR_FILENO, STDIN_FILENO, STDOUT_FILENO};
 use numeral::Numeral;
+use std::io;
+use streams::{argument, read_full};
 use words::ROOM;
 
 // The program's own name, the knee and the thermal voltage.
 const ARGUMENTS: usize = 3;
+
+// Room for what an argument's digits may be.
+const LONGEST_ARGUMENT: usize = 4096;
 
 // The most that an i32 holds. It is refused, so what is above it may count as it.
 const MOST: u32 = 2147483647;
@@ -21,71 +25,73 @@ enum Voltage {
     Nothing,
 }
 
-fn say(words: &[u8]) {
-    io::write_all(STDERR_FILENO, words);
-}
-
-fn say_usage() {
-    say(
+fn say_usage(rt: &HostRuntime) -> io::Result<()> {
+    rt.stderr().write_all(
         b"usage: knob A V < FILE, where FILE is a circuit file, A a knee and V a thermal voltage, both in whole microvolts\n",
-    );
+    )
 }
 
-fn say_refusal(a: Answer) {
-    say(b"knob: refused ");
-    io::print_decimal(STDERR_FILENO, a.number());
-    say(b" at ");
-    io::print_decimal(STDERR_FILENO, a.place());
-    say(b": ");
+fn say_refusal(rt: &HostRuntime, a: Answer) -> io::Result<()> {
+    let number = a.number();
+    let place = a.place();
+    eprint!(rt; "knob: refused {number} at {place}: ")?;
     let mut line = [0u8; ROOM];
     let length = words::explain(a, &mut line);
-    say(&line[..length]);
+    rt.stderr().write_all(&line[..length])
 }
 
-// An argument that is longer than the buffer counts as empty.
-fn asked(place: usize) -> Voltage {
-    let mut digits = io::buffer();
-    let length = os::arg(place, &mut digits);
+// An argument that is longer than the buffer counts as empty, and so does one that is not there.
+fn asked(rt: &HostRuntime, place: usize) -> Voltage {
+    let mut digits = [0u8; LONGEST_ARGUMENT];
+    let length = argument(rt, place, &mut digits).unwrap_or(0);
     match numeral::read(&digits[..length], MOST) {
         Numeral::Number(number) => Voltage::Microvolts(number as i32),
         Numeral::Nothing => Voltage::Nothing,
     }
 }
 
+// Whether there are as many arguments as the usage says: the last of them, and none after it.
+fn as_many(rt: &HostRuntime) -> bool {
+    let mut none = [0u8; 0];
+    argument(rt, ARGUMENTS - 1, &mut none).is_some() && argument(rt, ARGUMENTS, &mut none).is_none()
+}
+
 // Writes the file with its curve built anew, or says why it is refused.
-fn turn(s: &[u8], a: i32, v: i32) {
+fn turn(rt: &HostRuntime, s: &[u8], a: i32, v: i32) -> io::Result<()> {
     let mut out = [0u8; FILE_LENGTH];
     let answer = knee::turn(s, a, v, &mut out);
     if answer.number() == 0 {
-        io::write_all(STDOUT_FILENO, &out);
+        rt.write_all(&out)
     } else {
-        say_refusal(answer);
+        say_refusal(rt, answer)
     }
 }
 
 // Turns the knob, and answers whether it was asked to as the usage says. One byte more than a file has is room enough to tell an input that is
 // too long.
-fn turn_as_asked() -> bool {
-    if os::arg_count() != ARGUMENTS {
-        return false;
+fn turn_as_asked(rt: &HostRuntime) -> io::Result<bool> {
+    if !as_many(rt) {
+        return Ok(false);
     }
-    let Voltage::Microvolts(a) = asked(1) else {
-        return false;
+    let Voltage::Microvolts(a) = asked(rt, 1) else {
+        return Ok(false);
     };
-    let Voltage::Microvolts(v) = asked(2) else {
-        return false;
+    let Voltage::Microvolts(v) = asked(rt, 2) else {
+        return Ok(false);
     };
     let mut bytes = [0u8; FILE_LENGTH + 1];
-    let count = io::read_full(STDIN_FILENO, &mut bytes);
+    let count = read_full(&mut rt.reader(), &mut bytes)?;
     if count == 0 {
-        return false;
+        return Ok(false);
     }
-    turn(&bytes[..count], a, v);
-    true
+    turn(rt, &bytes[..count], a, v)?;
+    Ok(true)
 }
 
-fn main() {
-    if !turn_as_asked() {
-        say_usage();
+fn main(rt: HostRuntime) -> io::Result<()> {
+    if turn_as_asked(&rt)? {
+        Ok(())
+    } else {
+        say_usage(&rt)
     }
 }

@@ -3,6 +3,7 @@ ghost use Rattle.std.specs.Prelude.{◌≤◌};
 
 use crate::PIECE;
 use numeral::Numeral;
+use streams::argument;
 
 // The digits of PIECE, and a number that no argument may ask for.
 const DIGITS: usize = 5;
@@ -10,11 +11,11 @@ const DIGITS: usize = 5;
 const TOO_MANY: u32 = PIECE as u32 + 1;
 
 // What the first argument asks for, or 0 where it is no number from 1 to PIECE. One that is longer than DIGITS counts as empty.
-fn samples_of_first() -> usize
+fn samples_of_first(rt: &HostRuntime) -> usize
     ensures { result ≤ 10000 }
 {
     let mut digits = [0u8; DIGITS];
-    let length = os::arg(1, &mut digits);
+    let length = argument(rt, 1, &mut digits).unwrap_or(0);
     match numeral::read(&digits[..length], TOO_MANY) {
         Numeral::Number(number) => {
             if number < TOO_MANY {
@@ -27,16 +28,16 @@ fn samples_of_first() -> usize
     }
 }
 
-// PIECE where there is no argument, and 0 where it cannot be told how many are asked for. The program's own name counts as an argument.
-pub(crate) fn samples() -> usize
+// PIECE where there is no argument, and 0 where it cannot be told how many are asked for.
+pub(crate) fn samples(rt: &HostRuntime) -> usize
     ensures { result ≤ 10000 }
 {
-    let arguments = os::arg_count();
-    if arguments < 2 {
+    let mut none = [0u8; 0];
+    if argument(rt, 1, &mut none).is_none() {
         return PIECE;
     }
-    if 2 < arguments {
+    if argument(rt, 2, &mut none).is_some() {
         return 0;
     }
-    samples_of_first()
+    samples_of_first(rt)
 }
