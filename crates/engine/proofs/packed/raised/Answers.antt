@@ -1,5 +1,5 @@
 -- The sum is not negative, and 2^32 changes none of the four lowest bytes.
-use Rattle.std.proofs.Common.{◌≡◌, ◌+ℤ◌, ◌^◌, ℤ, pos, w64, FitsSigned, to_z, of_z, ap, ◌∙◌, arith}
+use Rattle.std.proofs.Common.{◌+ℤ◌, ◌^◌, ℤ, pos, w64, FitsSigned, ap, ◌∙◌, arith}
 use mir.ValLaws.{to_z-of_z}
 use Rattle.whole.specs.Signed.{wide_same}
 use Rattle.engine.proofs.RawBytes.{raised_is}

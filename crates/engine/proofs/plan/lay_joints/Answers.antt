@@ -6,12 +6,9 @@ use Rattle.circuit.specs.declared.Row.{Row}
 use Rattle.circuit.specs.declared.Part.TheVariants.{Adaptor}
 use Rattle.laws.specs.Accepted.{adaptor_limit}
 use Rattle.engine.specs.Plan.{floor}
-use Rattle.engine.proofs.Entering.{high, lower, filled_none, filled_over, filled_more, filled_all}
+use Rattle.engine.proofs.Entering.{high, lower, filled_over, filled_more, filled_all}
 use Rattle.engine.proofs.plan.lay_joints.Goals as goal
 use Rattle.engine.proofs.plan.lay_joints.Goals.{After-slot_at, in-Blank, in-Leaf, in-Adaptor}
-
-pub loop-i-init : goal.loop-i-init
-loop-i-init c = record { short = omega (arith, c.requires.0.3.accepted.short); filled = filled_none c.requires.1 }
 
 -- an adaptor's place is in range, as are its children and its ratio
 ready : (c : After-slot_at) → (floor < c.slot_at.result) × (c.slot_at.result - floor - 1 < adaptor_limit) × (c.in-Adaptor.a.first < row_limit)

@@ -9,7 +9,6 @@ use Rattle.engine.proofs.Laying.{seat, accepted, layable, tap_low}
 use Rattle.engine.proofs.plan.lay_out.Goals as goal
 use Rattle.engine.proofs.plan.lay_out.Goals.{After-wide-count, After-slots_of-given}
 
-
 short : (c : After-wide-count) → c.wide-count.result ≤ row_limit
 short c = omega (arith, c.wide-count.ensures, (accepted c.requires.0).short)
 

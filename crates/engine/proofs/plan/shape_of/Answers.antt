@@ -5,8 +5,6 @@ use lib.Dec.{eqb}
 use Rattle.whole.specs.Signed.{returned}
 use Rattle.circuit.specs.Record.{top}
 use Rattle.circuit.specs.Sample.{rounded_down, rounded_to_zero, rounding_of}
-use Rattle.circuit.specs.declared.Record.{Record}
-use Rattle.sheet.specs.Sheet.{heading_of}
 use Rattle.sheet.specs.declared.Heading.{Heading}
 use Rattle.parts.specs.Parts.{mirror_of}
 use Rattle.engine.specs.Wave.{way}

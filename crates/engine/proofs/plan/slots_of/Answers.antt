@@ -38,6 +38,3 @@ bounds-next-role-in-loop-i c = five c
 
 pub loop-i-preserved : goal.loop-i-preserved
 loop-i-preserved c rows h e = given_more rows c.args.count (c.loop-i.invariant rows h e) (omega arith) (is c rows h)
-
-pub returns : goal.returns
-returns c rows h e j l = (c.loop-i.invariant rows h e).past j (omega arith)

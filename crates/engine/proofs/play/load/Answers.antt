@@ -1,30 +1,18 @@
 -- A turn puts up what row i sends.
-use Rattle.std.proofs.Common.{◌≡◌, pos, w32, FitsSigned, refl, sym, ap, ap₂, ◌∙◌, arith, rules}
+use Rattle.std.proofs.Common.{◌≡◌, pos, w32, FitsSigned, refl, ap, ap₂, ◌∙◌, arith, rules}
 use mir.ValLaws.{to_z-of_z}
-use Rattle.whole.specs.Order.{Abs, abs_as}
-use Rattle.whole.specs.Signed.{zfits, returned, wide_same}
-use Rattle.circuit.specs.Record.{row_limit, row_in}
+use Rattle.whole.specs.Signed.{returned, wide_same}
+use Rattle.circuit.specs.Record.{row_in}
 use Rattle.circuit.specs.Sample.{whole_waves, rounding_of, part_sends, stored_at}
 use Rattle.sheet.specs.Sheet.{rows_in}
 use Rattle.parts.specs.Parts.{facing_of}
-use Rattle.engine.specs.Sample.{turned_by, turn_limit}
-use Rattle.engine.proofs.Facing.{turn_as, facing_turn}
+use Rattle.engine.specs.Sample.{turned_by}
 use Rattle.engine.proofs.Loading.{up_turned, loaded}
 use Rattle.engine.proofs.Placing.{laid_own, placed_start, placed_more}
 use Rattle.engine.proofs.play.load.Goals as goal
 
 pub loop-i-init : goal.loop-i-init
 loop-i-init c = record { own = laid_own c.requires.1.many c.requires.1.layable; placed = λ ρ. placed_start refl }
-
-pub turned-next-requires : goal.turned-next-requires
-turned-next-requires c =
-    let own : FitsSigned w32 c.part_sends-sent.result = record { sfits = c.part_sends-sent.type_inv } in (
-      turn_as (returned _ c.facing.type_inv ∙ c.facing.ensures) (facing_turn c.reversed_at.result),
-      (let range : Abs c.part_sends-sent.result turn_limit = omega zfits in abs_as range (sym (wide_same own)) (omega arith)),
-    )
-
-pub bounds-up-s : goal.bounds-up-s
-bounds-up-s c = rw c.slot_at-s.ensures (c.loop-i.invariant.own.low c.loop-i.i (omega arith))
 
 pub loop-i-preserved : goal.loop-i-preserved
 loop-i-preserved c =

@@ -1,5 +1,4 @@
 -- The stored waves are loaded, the samples are played over a plan of the record, and what they leave is taken out.
-use Rattle.std.proofs.Common.{ℕ, List}
 use Rattle.circuit.specs.declared.Record.{Record}
 use Rattle.sheet.specs.Sheet.{rows_in, columns_in, record_in}
 use Rattle.engine.specs.Plan.{Seated}

@@ -1,5 +1,5 @@
 -- A turn puts the output of sample i after the others.
-use Rattle.std.proofs.Common.{◌≡◌, ◌<◌, [], ◌∷◌, pos, length, get_or, w32, FitsSigned, refl, arith, rules}
+use Rattle.std.proofs.Common.{◌<◌, [], ◌∷◌, pos, length, get_or, w32, FitsSigned, refl, arith, rules}
 use mir.ValLaws.{to_z-of_z}
 use Rattle.circuit.specs.Run.{fresh_waves}
 use Rattle.engine.proofs.Looping.{going_start, going_laid, going_loud, going_over, going_on, going_done}

@@ -1,5 +1,5 @@
 -- The outputs done stand in front of the output.
-use Rattle.std.proofs.Common.{ℕ, ◌-◌, length}
+use Rattle.std.proofs.Common.{◌-◌, length}
 use Rattle.engine.specs.Plan.{joints_of, plan_of}
 use Rattle.engine.proofs.Looping.{Going}
 use Rattle.engine.proofs.play.samples.Given as goal

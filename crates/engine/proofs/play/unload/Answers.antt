@@ -27,9 +27,6 @@ loop-i-init c = record {
   rest = λ j l. zeros_at row_limit j;
 }
 
-pub bounds-up-s : goal.bounds-up-s
-bounds-up-s c = rw c.slot_at-s.ensures (c.loop-i.invariant.own.low c.loop-i.i (omega arith))
-
 -- the wave taken out
 module _ (c : After-part_taken-taken) where
   abbrev rows : List Row

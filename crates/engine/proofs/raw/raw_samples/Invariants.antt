@@ -1,5 +1,5 @@
 -- The bytes of the outputs done stand in front of the room.
-use Rattle.std.proofs.Common.{ℕ, ◌-◌, ◌++◌}
+use Rattle.std.proofs.Common.{◌-◌, ◌++◌}
 use Rattle.circuit.specs.Take.{output_bytes}
 use Rattle.engine.specs.Plan.{joints_of, plan_of}
 use Rattle.engine.specs.Raw.{fitting}

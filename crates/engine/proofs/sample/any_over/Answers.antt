@@ -26,6 +26,3 @@ pub loop-s-preserved : goal.loop-s-preserved
 loop-s-preserved c =
     let over = tested c.args.down.now c.loop-s.s (search rules) c.in_limit.ensures ∙ ap not c.if-not-in_limit.false in
     Counting.some_step _ c.loop-s.s ∙ rw c.loop-s.invariant over
-
-pub returns : goal.returns
-returns c = let done : c.loop-s.s ≡ c.args.n = omega arith in rw (← done) (sym c.loop-s.invariant)

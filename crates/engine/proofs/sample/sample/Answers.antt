@@ -1,6 +1,6 @@
 -- Each way out is one of the definition's outcomes, for every circuit that the plan is laid out for; the calls ask what holds for the one that is
 -- known to be there.
-use Rattle.std.proofs.Common.{◌≡◌, ℕ, suc, ◌+◌, ◌<◌, ◌^◌, Bool, true, List, ℤ, set, w32, w64, to_z, of_z, FitsSigned, sym, ap, ◌∙◌, arith, rules}
+use Rattle.std.proofs.Common.{◌≡◌, ℕ, suc, ◌+◌, ◌<◌, ◌^◌, Bool, true, List, ℤ, set, w32, w64, to_z, of_z, FitsSigned, sym, ap, ◌∙◌, rules}
 use lib.Signed.{mag}
 use mir.Syntax.{Width}
 use mir.ValLaws.{to_z-of_z}

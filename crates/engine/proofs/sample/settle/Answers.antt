@@ -1,5 +1,5 @@
 -- A leaf over its limit leaves the waves as they are; else the tap's two waves and the reactive leaves' are in theirs.
-use Rattle.std.proofs.Common.{◌≡◌, refl, sym, ap₂, ◌∙◌, ◌+ℤ◌, w64, rules}
+use Rattle.std.proofs.Common.{refl, sym, ap₂, ◌∙◌, ◌+ℤ◌, w64, rules}
 use mir.ValLaws.{to_z-of_z}
 use Rattle.engine.specs.Sample.{turned_by, Settled}
 use Rattle.engine.proofs.sample.settle.Goals as goal

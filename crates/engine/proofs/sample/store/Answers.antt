@@ -1,14 +1,11 @@
 -- A turn stores what slot s keeps.
-use Rattle.std.proofs.Common.{◌≡◌, ℕ, ◌+◌, ◌<◌, List, ℤ, pos, length, set, w64, refl, ◌∙◌, arith, rules, length-set}
+use Rattle.std.proofs.Common.{◌≡◌, ℕ, ◌+◌, ◌<◌, List, ℤ, pos, length, set, w64, ◌∙◌, arith, rules, length-set}
 use lib.Seq.{get_or-set_other}
 use mir.ValLaws.{to_z-of_z}
 use Rattle.circuit.specs.Sample.{stored_at}
 use Rattle.engine.specs.Sample.{turned_by, Restored}
 use Rattle.engine.proofs.Fill.{filled_more}
 use Rattle.engine.proofs.sample.store.Goals as goal
-
-pub loop-s-init : goal.loop-s-init
-loop-s-init c = record { long = refl; kept = λ s h. absurd (omega (arith, h)); rest = λ s h. refl }
 
 restored_more : {turns ds ups after : List ℤ} {s : ℕ} {v : ℤ} → Restored turns ds s ups after → s < length after
     → v ≡ turned_by (stored_at turns s) (stored_at ds s) → Restored turns ds (s + 1) ups (set after s v)
@@ -29,6 +26,3 @@ loop-s-preserved c =
       to_z-of_z w64 (stored_at c.args.turns.now l.s) (search rules),
       to_z-of_z w64 (stored_at c.args.down.now l.s) (search rules),
     ))
-
-pub returns : goal.returns
-returns c = let done : c.loop-s.s ≡ c.args.q = omega arith in rw (← done) c.loop-s.invariant
