@@ -62,7 +62,13 @@ struct Worked {
 }
 
 // Works a piece and writes its outputs, those before a refused sample too.
-fn work(rt: &HostRuntime, r: Record, carried: Carried, bytes: &[u8], out: &mut [u8]) -> io::Result<Worked>
+fn work(
+    rt: &HostRuntime,
+    r: Record,
+    carried: Carried,
+    bytes: &[u8],
+    out: &mut [u8],
+) -> io::Result<Worked>
     requires { carried.count ≤ left_limit }
     ensures few { IfOk result (λ w. w.carried.count ≤ left_limit) }
     ensures size { length out.new ≡ length out.old }
@@ -105,7 +111,13 @@ fn work_piece<R: Read>(
 
 // Works a take, piece by piece, to its end or its first refused sample, and answers with its ending. Every piece but the last fills `bytes`,
 // with whole samples, and no take has more than TAKE_LIMIT.
-fn work_take<R: Read>(rt: &HostRuntime, from: &mut R, r: Record, bytes: &mut [u8], out: &mut [u8]) -> io::Result<Answer>
+fn work_take<R: Read>(
+    rt: &HostRuntime,
+    from: &mut R,
+    r: Record,
+    bytes: &mut [u8],
+    out: &mut [u8],
+) -> io::Result<Answer>
     requires bytes_len_bound { length bytes.old ≤ sample_length * 10000 }
     requires out_len { length out.old ≡ output_length * 10000 }
 {
@@ -133,7 +145,13 @@ fn run<R: Read>(rt: &HostRuntime, from: &mut R, s: &[u8], samples: usize) -> io:
     let record = reading.record;
     let mut bytes = piece();
     let mut out = outputs();
-    work_take(rt, from, record, &mut bytes[..SAMPLE_LENGTH * samples], &mut out)
+    work_take(
+        rt,
+        from,
+        record,
+        &mut bytes[..SAMPLE_LENGTH * samples],
+        &mut out,
+    )
 }
 
 fn say_usage(rt: &HostRuntime) -> io::Result<()> {
