@@ -25,8 +25,13 @@ enum Voltage {
     Nothing,
 }
 
+fn say(rt: &HostRuntime, words: &[u8]) -> io::Result<()> {
+    rt.stderr().write_all(words)
+}
+
 fn say_usage(rt: &HostRuntime) -> io::Result<()> {
-    rt.stderr().write_all(
+    say(
+        rt,
         b"usage: knob A V < FILE, where FILE is a circuit file, A a knee and V a thermal voltage, both in whole microvolts\n",
     )
 }
@@ -37,7 +42,7 @@ fn say_refusal(rt: &HostRuntime, a: Answer) -> io::Result<()> {
     eprint!(rt; "knob: refused {number} at {place}: ")?;
     let mut line = [0u8; ROOM];
     let length = words::explain(a, &mut line);
-    rt.stderr().write_all(&line[..length])
+    say(rt, &line[..length])
 }
 
 // An argument that is longer than the buffer counts as empty, and so does one that is not there.

@@ -39,24 +39,28 @@ fn list_file(rt: &HostRuntime, name: &str) -> io::Result<()> {
     rt.write_all(&text[..length])
 }
 
+// Lists the file that argument i names, and answers whether there is such an argument. A name that is longer than the buffer counts as empty.
 // A path is text here: bytes that are no UTF-8 name no file.
-fn list_named(rt: &HostRuntime, name: &[u8]) -> io::Result<()> {
-    match str::from_utf8(name) {
-        Ok(name) => list_file(rt, name),
+fn list_argument(rt: &HostRuntime, i: usize) -> io::Result<bool> {
+    let mut name = [0u8; LONGEST_NAME];
+    let Some(length) = argument(rt, i, &mut name) else {
+        return Ok(false);
+    };
+    match str::from_utf8(&name[..length]) {
+        Ok(name) => list_file(rt, name)?,
         Err(_) => {
-            rt.stderr().write_all(name)?;
-            rt.stderr().write_all(b": not UTF-8\n")
+            rt.stderr().write_all(&name[..length])?;
+            rt.stderr().write_all(b": not UTF-8\n")?;
         }
     }
+    Ok(true)
 }
 
 fn main(rt: HostRuntime) -> io::Result<()> {
-    let mut name = [0u8; LONGEST_NAME];
     for i in 1..usize::MAX {
-        let Some(length) = argument(&rt, i, &mut name) else {
+        if !list_argument(&rt, i)? {
             break;
-        };
-        list_named(&rt, &name[..length])?;
+        }
     }
     Ok(())
 }

@@ -21,6 +21,10 @@ const PIECE_BYTES: usize = SAMPLE_LENGTH * PIECE;
 
 const PIECE_ROOM: usize = OUTPUT_LENGTH * PIECE;
 
+fn say(rt: &HostRuntime, words: &[u8]) -> io::Result<()> {
+    rt.stderr().write_all(words)
+}
+
 fn say_refusal(rt: &HostRuntime, a: Answer) -> io::Result<()> {
     let number = a.number();
     if number != 0 {
@@ -28,7 +32,7 @@ fn say_refusal(rt: &HostRuntime, a: Answer) -> io::Result<()> {
         eprint!(rt; "take: refused {number} at {place}: ")?;
         let mut line = [0u8; ROOM];
         let length = words::explain(a, &mut line);
-        rt.stderr().write_all(&line[..length])?;
+        say(rt, &line[..length])?;
     }
     Ok(())
 }
@@ -155,7 +159,8 @@ fn run<R: Read>(rt: &HostRuntime, from: &mut R, s: &[u8], samples: usize) -> io:
 }
 
 fn say_usage(rt: &HostRuntime) -> io::Result<()> {
-    rt.stderr().write_all(
+    say(
+        rt,
         b"usage: take [N] < INPUT, where INPUT is a circuit file and after it the take, read N samples at a time, 1 to 10000\n",
     )
 }
