@@ -2,9 +2,9 @@
 -- promise is what one call of all the bytes does.
 use Prim.Native.Nat.{ℕ, zero, suc, ◌+◌, ◌*◌, ◌/◌, ◌<◌, ◌≤◌}
 use native.Mathlib.Omega.{arith}
-use borrow.Author.Tests.{leb-true, eqb-true, not-false}
+use borrow.Author.Tests.{leb-true, eqb-true}
 use mathlib.Core.Path.{◌≡◌, refl, sym, ap, ap₂, ◌∙◌}
-use mathlib.Core.Bool.{Bool, false, not, cond, and-eq-true_iff}
+use mathlib.Core.Bool.{Bool, true, cond, and-eq-true_iff}
 use mathlib.Core.List.{List, [], ◌∷◌, ◌++◌, append_assoc, append-nil}
 use lib.Dec.{eqb, leb}
 use lib.ListN.{length, take, drop, length-append, length-drop, take-append-drop}
@@ -35,9 +35,9 @@ pub record Cuttable (c : Carried) (s o : List ℕ) (at : ℕ) : Type 0 where
   pub room : length o ≡ room_for (length s) c
 
 pub cuttable : {c : Carried} {s o : List ℕ} {at : ℕ} {b : Bool}
-    → length c.left ≡ left_limit → b ≡ can_cut c (length s) (length o) at → not b ≡ false → Cuttable c s o at
+    → length c.left ≡ left_limit → b ≡ can_cut c (length s) (length o) at → b ≡ true → Cuttable c s o at
 cuttable {c} {s} {o} {at} {b} sized e t =
-    let three = (and-eq-true_iff _ (eqb (length o) (room_for (length s) c))).0 (sym e ∙ not-false b t) in
+    let three = (and-eq-true_iff _ (eqb (length o) (room_for (length s) c))).0 (sym e ∙ t) in
     let two = (and-eq-true_iff _ (leb c.count left_limit)).0 three.0 in
     let one = (and-eq-true_iff _ (leb at (length s))).0 two.0 in
     record { sized = sized; limit = leb-true _ _ one.0; inside = leb-true _ _ one.1; few = leb-true _ _ two.1; room = eqb-true _ _ three.1 }

@@ -48,6 +48,7 @@ pub fn reread(r: Record) -> Reading
 }
 
 // An answer of samples that begin `at` after the first.
+#[tactic(auto, unfolding(circuit::specs::Numbers::handed))]
 fn later(at: usize, answer: Answer) -> Answer
     requires { (Pieces.later at (handed answer)).place < 2 ^ 64 }
     ensures { handed result ≡ Pieces.later at (handed answer) }
