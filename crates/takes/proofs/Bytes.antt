@@ -2,9 +2,9 @@
 use Prim.Native.Nat.{ℕ, ◌+◌, ◌-◌, ◌<◌, ◌≤◌}
 use native.Mathlib.Nat.{add-zero}
 use native.Mathlib.Omega.{arith}
-use mathlib.Core.Path.{◌≡◌, refl, sym, ap, ◌∙◌}
+use mathlib.Core.Path.{◌≡◌, refl, ap, ◌∙◌}
 use mathlib.Core.List.{List, [], ◌∷◌, ◌++◌}
-use lib.ListN.{length, get_or, take, drop, length-append, length-map, get_or-append}
+use lib.ListN.{length, get_or, take, drop, length-append, get_or-append}
 use lib.Seq.{length-take-le, get_or-take, get_or-drop, get_or-append-add}
 use mir.Val.{Val}
 use denote.Shadow.{shadow}
@@ -15,7 +15,7 @@ use Rattle.circuit.specs.contracts.Carried as Types
 
 -- an array of two, as its type gives
 pub left_sized : (c : Carried) (vs : List Val) → shadow ((Types.the_row).own_val c vs) → length c.left ≡ left_limit
-left_sized c vs h = sym (length-map c.left (λ v. v)) ∙ h.1.1.1.0.1.0.1
+left_sized c vs h = h.1.1.1.0.1.0.1
 
 module _ (left more : List ℕ) (count : ℕ) (h : count ≤ length left) where
   pub both_length : length (take count left ++ more) ≡ count + length more

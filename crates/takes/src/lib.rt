@@ -15,6 +15,7 @@ use left::left_after_lem;
 use rules::{end_rule, own_rules, room_rule};
 
 // What the first call of a take is given.
+#[tactic(auto, unfolding(circuit::specs::Take::fresh_take))]
 pub fn start() -> Carried
     ensures { result ≡ fresh_take }
 {

@@ -7,6 +7,7 @@ ghost use Rattle.takes.specs.Own.{own_rules, room_for};
 
 use circuit::{Answer, Carried, LEFT_LIMIT, NO_ROW, OUTPUT_LENGTH, SAMPLE_LENGTH, TAKE_LIMIT};
 
+#[tactic(auto, unfolding(circuit::specs::Take::carried_rule, circuit::specs::Numbers::handed))]
 fn carried_rule(c: Carried) -> Answer
     ensures { handed result ≡ numbered 12 (carried_rule c) }
 {
@@ -19,6 +20,7 @@ fn carried_rule(c: Carried) -> Answer
     }
 }
 
+#[tactic(auto, unfolding(circuit::specs::Numbers::handed, circuit::specs::Take::held_rule))]
 fn held_rule(c: Carried) -> Answer
     ensures { handed result ≡ numbered 15 (held_rule c) }
 {
@@ -37,6 +39,7 @@ pub(crate) fn own_rules(c: Carried) -> Answer
 }
 
 // A slice has fewer than 2^63 bytes, so that nothing wraps.
+#[tactic(auto, unfolding(circuit::specs::Numbers::handed))]
 pub(crate) fn room_rule(c: Carried, bytes: &[u8], room: usize) -> Answer
     ensures { handed result ≡ numbered 16 (unless (eqb room (room_for (length bytes.now) c)) 0) }
 {
@@ -48,6 +51,7 @@ pub(crate) fn room_rule(c: Carried, bytes: &[u8], room: usize) -> Answer
     }
 }
 
+#[tactic(auto, unfolding(circuit::specs::Take::end_rule, circuit::specs::Numbers::handed))]
 pub(crate) fn end_rule(c: Carried) -> Answer
     ensures { handed result ≡ numbered 17 (end_rule c) }
 {
