@@ -1,10 +1,12 @@
 // What each case is called, in the order in which the cases are run.
 use crate::show;
 use crate::tally::Tally;
+use std::io;
 
 // Begins the line of the case that comes next.
-pub fn named(t: Tally) {
+pub fn named(rt: &HostRuntime, t: Tally) -> io::Result<()> {
     show::line(
+        rt,
         b"case 1, input 1000 ohms and resistor 3000 ohms in parallel
 case 6, the same two in series
 version 0
@@ -239,5 +241,5 @@ a take's call with two bytes
 a take's call with a sample and no room
 ",
         t.cases,
-    );
+    )
 }

@@ -16,15 +16,16 @@ mod tally;
 mod work;
 
 use crate::tally::Tally;
+use std::io;
 
-fn main() {
+fn main(rt: HostRuntime) -> io::Result<()> {
     let mut t = Tally { cases: 0, agree: 0 };
-    t = set_ups::cases(t);
-    t = samples::cases(t);
-    t = runs::cases(t);
-    t = files::cases(t);
-    t = feeds::cases(t);
-    t = knees::cases(t);
-    t = lights::cases(t);
-    tally::shown(t);
+    t = set_ups::cases(&rt, t)?;
+    t = samples::cases(&rt, t)?;
+    t = runs::cases(&rt, t)?;
+    t = files::cases(&rt, t)?;
+    t = feeds::cases(&rt, t)?;
+    t = knees::cases(&rt, t)?;
+    t = lights::cases(&rt, t)?;
+    tally::shown(&rt, t)
 }

@@ -1,24 +1,23 @@
 // What the bench writes: words, numbers with their unit, and an answer as a reader says it.
 use circuit::{Answer, NO_SEGMENT, State};
-use libc::STDOUT_FILENO;
+use std::io;
 
 // What stands in an output before a run.
 pub const BEFORE: i32 = 77;
 
-pub fn text(t: &[u8]) {
-    io::write_all(STDOUT_FILENO, t);
+pub fn text(rt: &HostRuntime, t: &[u8]) -> io::Result<()> {
+    rt.write_all(t)
 }
 
 // The nth line of a text, the first being 0.
-pub fn line(s: &[u8], n: u64) {
+pub fn line(rt: &HostRuntime, s: &[u8], n: u64) -> io::Result<()> {
     let mut before = n;
     let mut from: usize = 0;
     let mut i: usize = 0;
     while i < s.len() {
         if s[i] == 10 {
             if before == 0 {
-                text(&s[from..i]);
-                return;
+                return text(rt, &s[from..i]);
             }
             before -= 1;
             i += 1;
@@ -27,77 +26,79 @@ pub fn line(s: &[u8], n: u64) {
             i += 1;
         }
     }
+    Ok(())
 }
 
-pub fn number(n: u64) {
-    io::print_decimal(STDOUT_FILENO, n);
+pub fn number(rt: &HostRuntime, n: u64) -> io::Result<()> {
+    print!(rt; "{n}")
 }
 
-fn signed(n: i32) {
+fn signed(rt: &HostRuntime, n: i32) -> io::Result<()> {
     if n < 0 {
-        text(b"-");
-        number((!n) as u64 + 1);
+        text(rt, b"-")?;
+        number(rt, (!n) as u64 + 1)
     } else {
-        number(n as u64);
+        number(rt, n as u64)
     }
 }
 
 // A wave.
-pub fn microvolts(n: i32) {
-    signed(n);
-    text(b" microvolts");
+pub fn microvolts(rt: &HostRuntime, n: i32) -> io::Result<()> {
+    signed(rt, n)?;
+    text(rt, b" microvolts")
 }
 
 // The wave in row 1, the only row of the bench's circuits that can store one.
-pub fn stored(state: State) {
+pub fn stored(rt: &HostRuntime, state: State) -> io::Result<()> {
     let waves = state.waves;
-    text(b", stored ");
-    microvolts(waves[1]);
+    text(rt, b", stored ")?;
+    microvolts(rt, waves[1])
 }
 
-pub fn samples_done(n: u64) {
-    text(b", samples done ");
-    number(n);
+pub fn samples_done(rt: &HostRuntime, n: u64) -> io::Result<()> {
+    text(rt, b", samples done ")?;
+    number(rt, n)
 }
 
-pub fn segment(n: u8) {
+pub fn segment(rt: &HostRuntime, n: u8) -> io::Result<()> {
     if n == NO_SEGMENT {
-        text(b", no segment");
+        text(rt, b", no segment")
     } else {
-        text(b", segment ");
-        number(n as u64);
+        text(rt, b", segment ")?;
+        number(rt, n as u64)
     }
 }
 
 // An output: twice a voltage is the sum of two waves, so its unit is half a wave's.
-pub fn output(n: i32) {
+pub fn output(rt: &HostRuntime, n: i32) -> io::Result<()> {
     if n == BEFORE {
-        text(b", output left");
+        text(rt, b", output left")
     } else {
-        text(b", output ");
-        signed(n);
-        text(b" half microvolts");
+        text(rt, b", output ")?;
+        signed(rt, n)?;
+        text(rt, b" half microvolts")
     }
 }
 
 // Whole ohms; a resistance that is negative or no number has none.
-pub fn ohms(x: f64) {
+pub fn ohms(rt: &HostRuntime, x: f64) -> io::Result<()> {
     if x > -1.0 {
         if x < 18446744073709551616.0 {
-            number(std::num::truncating_f64_to_u64(x));
-            text(b" ohms");
+            number(rt, std::num::truncating_f64_to_u64(x))?;
+            text(rt, b" ohms")?;
         }
     }
+    Ok(())
 }
 
-pub fn answer(a: Answer) {
+pub fn answer(rt: &HostRuntime, a: Answer) -> io::Result<()> {
     let n = a.number();
     if n == 0 {
-        text(b": done");
+        text(rt, b": done")
     } else {
-        text(b": refused ");
-        number(n);
-        text(b" at ");
-        number(a.place());
+        text(rt, b": refused ")?;
+        number(rt, n)?;
+        text(rt, b" at ")?;
+        number(rt, a.place())
     }
 }

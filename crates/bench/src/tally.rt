@@ -2,6 +2,7 @@
 // of the paper's table, and 0 and 0 where it is done.
 use crate::{labels, show};
 use circuit::Answer;
+use std::io;
 use std::num::wrapping_add_u64;
 
 #[derive(Clone, Copy)]
@@ -15,28 +16,34 @@ pub fn agrees(a: Answer, number: u64, place: u64) -> bool {
 }
 
 // A case that hands back an answer and nothing else.
-pub fn answered(t: Tally, a: Answer, number: u64, place: u64) -> Tally {
-    labels::named(t);
-    show::answer(a);
-    counted(t, agrees(a, number, place))
+pub fn answered(
+    rt: &HostRuntime,
+    t: Tally,
+    a: Answer,
+    number: u64,
+    place: u64,
+) -> io::Result<Tally> {
+    labels::named(rt, t)?;
+    show::answer(rt, a)?;
+    counted(rt, t, agrees(a, number, place))
 }
 
 // Ends a case's line.
-pub fn counted(t: Tally, agrees: bool) -> Tally {
+pub fn counted(rt: &HostRuntime, t: Tally, agrees: bool) -> io::Result<Tally> {
     if agrees {
-        show::text(b"\n");
+        show::text(rt, b"\n")?;
     } else {
-        show::text(b", WHICH IS WRONG\n");
+        show::text(rt, b", WHICH IS WRONG\n")?;
     }
-    Tally {
+    Ok(Tally {
         cases: wrapping_add_u64(t.cases, 1),
         agree: wrapping_add_u64(t.agree, agrees as u64),
-    }
+    })
 }
 
-pub fn shown(t: Tally) {
-    show::number(t.agree);
-    show::text(b" of ");
-    show::number(t.cases);
-    show::text(b" cases agree\n");
+pub fn shown(rt: &HostRuntime, t: Tally) -> io::Result<()> {
+    show::number(rt, t.agree)?;
+    show::text(rt, b" of ")?;
+    show::number(rt, t.cases)?;
+    show::text(rt, b" cases agree\n")
 }

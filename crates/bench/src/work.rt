@@ -3,6 +3,7 @@ use crate::show;
 use crate::show::BEFORE;
 use crate::tally::agrees;
 use circuit::{ROWS, Record, State};
+use std::io;
 
 #[derive(Clone, Copy)]
 pub struct Worked {
@@ -13,6 +14,7 @@ pub struct Worked {
 // A sample from this stored wave, and whether the answer, the output and the stored wave after it are these. A sample that is refused is not
 // done.
 pub fn work(
+    rt: &HostRuntime,
     r: Record,
     wave: i32,
     x: i32,
@@ -20,22 +22,22 @@ pub fn work(
     place: u64,
     output: i32,
     after: i32,
-) -> Worked {
+) -> io::Result<Worked> {
     let input = [x];
     let mut out = [BEFORE];
     let run = engine::run(r, stored(wave), &input, &mut out);
     let answer = run.answer;
     let state = run.state;
     let handed = out[0];
-    show::microvolts(x);
-    show::answer(answer);
-    show::output(handed);
+    show::microvolts(rt, x)?;
+    show::answer(rt, answer)?;
+    show::output(rt, handed)?;
     let done = (number == 0) as usize;
     let right = agrees(answer, number, place) & (run.done == done) & (handed == output);
-    Worked {
+    Ok(Worked {
         right: right & is_stored(state, after),
         state,
-    }
+    })
 }
 
 // A fresh state, but for this wave in row 1.
