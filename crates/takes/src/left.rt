@@ -43,7 +43,7 @@ fn left_over(left: [u8; LEFT_LIMIT], count: usize, more: &[u8]) -> Rest
 }
 
 // What a call leaves over: nothing after a refused sample.
-pub(crate) fn left_after_lem(all: bool, left: [u8; LEFT_LIMIT], count: usize, more: &[u8]) -> Rest
+pub(crate) fn left_after(all: bool, left: [u8; LEFT_LIMIT], count: usize, more: &[u8]) -> Rest
     requires { count ≤ left_limit }
     ensures bytes { result.bytes ≡ take left_limit (cond all (left_over (take count left ++ more.now)) [] ++ zeros left_limit) }
     ensures count { result.count ≡ length (cond all (left_over (take count left ++ more.now)) []) }

@@ -11,7 +11,7 @@ mod left;
 mod rules;
 
 use circuit::{Answer, Carried, Feed, LEFT_LIMIT, NO_SEGMENT, Record};
-use left::left_after_lem;
+use left::left_after;
 use rules::{end_rule, own_rules, room_rule};
 
 // What the first call of a take is given.
@@ -55,7 +55,7 @@ fn work(r: Record, carried: Carried, bytes: &[u8], out: &mut [u8]) -> Feed
     let done = carried.done + progress.done as u64;
     let number = answer.number();
     if number == 0 {
-        let rest = left_after_lem(true, left, count, bytes);
+        let rest = left_after(true, left, count, bytes);
         let kept = rest.bytes;
         return Feed {
             answer: Answer::Done,
@@ -71,7 +71,7 @@ fn work(r: Record, carried: Carried, bytes: &[u8], out: &mut [u8]) -> Feed
         };
     }
     if number == 15 {
-        let rest = left_after_lem(false, left, count, bytes);
+        let rest = left_after(false, left, count, bytes);
         let kept = rest.bytes;
         return Feed {
             answer: Answer::Overload(done as usize),

@@ -23,14 +23,14 @@ pub returns-then-number-eq0 : goal.returns-then-number-eq0
 unfolding handed
 returns-then-number-eq0 c =
     let run = ran (goal.at.returns-then-number-eq0 c).After-run_raw-progress in
-    let rest = c.left_after_lem-rest.ensures in
+    let rest = c.left_after-rest.ensures in
     feeds _ _ _ _ (fed_played run 0 (sym c.number-number.ensures ∙ c.if-number-eq0.true) (inl refl)) refl refl refl (rw (rest.bytes, rest.count) refl) refl
 
 pub returns-then-number-eq15 : goal.returns-then-number-eq15
 unfolding handed
 returns-then-number-eq15 c =
     let run = ran (goal.at.returns-then-number-eq15 c).After-run_raw-progress in
-    let rest = c.left_after_lem-rest-then-number-eq15.ensures in
+    let rest = c.left_after-rest-then-number-eq15.ensures in
     feeds _ _ _ _ (fed_played run 15 (sym c.number-number.ensures ∙ c.if-number-eq15.true) (inr refl)) refl refl refl (rw (rest.bytes, rest.count) refl) refl
 
 pub returns : goal.returns
