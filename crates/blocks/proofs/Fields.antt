@@ -1,6 +1,6 @@
--- The fields of a row, of a column and of the heading, entered one after another; and a part of fields that are read.
+-- The fields of a row, of a column and of the heading, entered one after another; and the kinds by their numbers.
 use mathlib.Core.Path.{◌≡◌, refl, ap, ◌∙◌}
-use Prim.Native.Nat.{ℕ, ◌+◌, ◌≤◌, zero-le}
+use Prim.Native.Nat.{ℕ, zero, suc, ◌+◌, ◌≤◌, zero-le}
 use native.Mathlib.Omega.{arith}
 use mathlib.Core.List.{List, ◌++◌}
 use lib.ListN.{length}
@@ -8,8 +8,9 @@ use lib.IntN.{ℤ}
 use lib.Ieee.{Float, binary64, to_bits}
 use mir.Syntax.{w32}
 use mir.Val.{of_z}
-use Rattle.circuit.specs.File.{block_length, bytes, zeros, row_fields, column_fields, part_of, kind_number, heading}
+use Rattle.circuit.specs.File.{block_length, bytes, zeros, row_fields, column_fields, part_of, kind_number, kind_of, heading}
 use Rattle.circuit.specs.declared.Column.{Column}
+use Rattle.circuit.specs.declared.CurveKind.TheVariants.{Unset}
 use Rattle.circuit.specs.declared.Record.{Record}
 use Rattle.blocks.specs.Placing.{placed, heading_length}
 use Rattle.blocks.proofs.Digits.{length_bytes}
@@ -64,6 +65,15 @@ heading_placed r kind bits m₁ m₂ m₃ m₄ m₅ m₆ m₇ ek eb e₁ e₂ e�
   where
     next : {j : ℕ} {m fields : List ℕ} (p k n : ℕ) (to : List ℕ) → p ≡ 0 + j → to ≡ placed m p (bytes k n) → Begun j m fields → Begun (j + k) to (fields ++ bytes k n)
     next = next_field (zeros block_length) 0 zero-le
+
+-- ---- kinds
+
+-- a number that is none of a curve's kinds is read as unset
+pub kind_unset : (n : ℕ) → (n ≡ 1 → ⊥) → (n ≡ 2 → ⊥) → kind_of n ≡ Unset
+kind_unset zero n₁ n₂ = refl
+kind_unset (suc zero) n₁ n₂ = absurd (n₁ refl)
+kind_unset (suc (suc zero)) n₁ n₂ = absurd (n₂ refl)
+kind_unset (suc (suc (suc k))) n₁ n₂ = refl
 
 -- a part of fields that are read
 pub part_same : (k a b k' a' b' : ℕ) (v v' : ℤ) (x x' : Float) → k ≡ k' → a ≡ a' → b ≡ b' → v ≡ v' → x ≡ x' → part_of k a b v x ≡ part_of k' a' b' v' x'

@@ -42,11 +42,17 @@ is_nan_lem nan h = refl
 is_nan_lem (inf s) h = cc
 is_nan_lem (fin s m e) h = cc
 
+-- x == x
+pub same_number : (x : Float) → Ieee.eq x x ≡ true → is_nan x ≡ false
+unfolding Ieee.eq is_nan
+same_number nan h = sym h
+same_number (inf s) h = refl
+same_number (fin s m e) h = refl
+
 same_bool : (s : Bool) → beq s s ≡ true
 same_bool true = refl
 same_bool false = refl
 
--- x == x
 pub other_number : (x : Float) → Ieee.eq x x ≡ false → x ≡ nan
 unfolding Ieee.eq is_nan
 other_number nan h = refl

@@ -1,11 +1,11 @@
 -- The laws of bytes placed in a list: after a front, one after another, and into a new block of zeros.
 use mathlib.Core.Path.{◌≡◌, refl, sym, ap, ◌∙◌}
 use Prim.Native.Nat.{ℕ, zero, suc, ◌+◌, ◌-◌, ◌≤◌}
-use native.Mathlib.Nat.{sub-zero, zero-sub, suc-sub-suc}
+use native.Mathlib.Nat.{le_refl, sub-zero, zero-sub, suc-sub-suc}
 use native.Mathlib.Omega.{arith}
 use mathlib.Core.List.{List, [], ◌∷◌, ◌++◌, append_assoc, append-nil}
-use lib.ListN.{length, take, drop, length-append, length-replicate, replicate-append-replicate, drop_of_length-le}
-use lib.Seq.{take-take, drop-drop, take_at, drop_at, length-take-le, take-length, paste}
+use lib.ListN.{length, take, drop, length-append, length-drop, length-replicate, replicate-append-replicate, drop_of_length-le}
+use lib.Seq.{take-take, take_all, drop-drop, take_at, drop_at, length-take-le, take-length, paste}
 use Rattle.circuit.specs.File.{block_length, zeros}
 use Rattle.blocks.specs.Placing.{placed, begun}
 
@@ -28,6 +28,13 @@ split_zeros a b n e = ap zeros (sym e) ∙ sym (replicate-append-replicate a b 0
 
 pub paste_whole : (d v : List ℕ) (at k : ℕ) → length v ≡ k → paste d at v k ≡ placed d at v
 paste_whole d v at k e = rw (← e, take-length)
+
+-- v copied over the front of what stands from `at` on
+pub placed_copy : (d v : List ℕ) (at : ℕ) {part : List ℕ} → part ≡ take (length v) v ++ drop (length v) (take (length d - at) (drop at d))
+    → take at d ++ (part ++ drop (length d - at) (drop at d)) ≡ placed d at v
+placed_copy d v at e =
+    let all : length (drop at d) ≤ length d - at = rw length-drop (le_refl _) in
+    rw (e, take-length, take_all (length d - at) (drop at d) all, drop_of_length-le (drop at d) all, append-nil, drop-drop, append_assoc)
 
 -- after a front
 placed_after : (a r v : List ℕ) (at : ℕ) → length a ≡ at → placed (a ++ r) at v ≡ a ++ v ++ drop (length v) r

@@ -1,16 +1,16 @@
--- Waves in their limit, as code reads them back: they fit 64 bits, as do their opposites; and how large a difference of two is.
+-- Waves in their limit, as code reads them back: they fit 64 bits, as do their opposites, sums and differences.
 use Prim.Native.Nat.{ℕ, ◌*◌, ◌^◌, ◌<◌}
 use native.Mathlib.Omega.{arith}
-use mathlib.Core.Path.{◌≡◌, ◌∙◌}
+use mathlib.Core.Path.{◌≡◌, ap₂, ◌∙◌}
 use mathlib.Core.Bool.{true}
 use borrow.Author.Tests.{leb-true, le-leb}
-use lib.IntN.{ℤ, pos, nat_abs, neg_ℤ, ◌-ℤ◌, +ℤ_idl}
+use lib.IntN.{ℤ, pos, nat_abs, neg_ℤ, ◌+ℤ◌, ◌-ℤ◌, +ℤ_idl}
 use mir.Syntax.{w64}
 use mir.Val.{SFits, to_z, of_z}
 use mir.Facts.{to_z-of_z}
-use Rattle.whole.specs.Integers.{at, ◌⊟◌}
+use Rattle.whole.specs.Integers.{at, ◌⊞◌, ◌⊟◌}
 use Rattle.whole.specs.Order.{zarith, Abs, abs_neg}
-use Rattle.whole.specs.Signed.{fits_abs}
+use Rattle.whole.specs.Signed.{zfits, fits_abs}
 use Rattle.circuit.specs.Counting.{within}
 use Rattle.circuit.specs.Curve.{wave_limit}
 
@@ -43,3 +43,12 @@ module _ {z : ℤ} (h : Abs z wave_limit) where
 module _ {x y : ℤ} (h : Abs x wave_limit) (k : Abs y wave_limit) where
   pub difference_range : Abs (x -ℤ y) (2 * wave_limit)
   difference_range = omega (zarith, at x ⊟ at y)
+
+  pub sum_range : Abs (x +ℤ y) (2 * wave_limit)
+  sum_range = omega (zarith, at x ⊞ at y)
+
+  pub sum_fits : SFits w64 (to_z w64 (of_z w64 x) +ℤ to_z w64 (of_z w64 y))
+  sum_fits = rw (limit_reads h, limit_reads k) (omega (zfits, at x ⊞ at y))
+
+  pub sum_reads : to_z w64 (of_z w64 (to_z w64 (of_z w64 x) +ℤ to_z w64 (of_z w64 y))) ≡ x +ℤ y
+  sum_reads = to_z-of_z sum_fits ∙ ap₂ ◌+ℤ◌ (limit_reads h) (limit_reads k)

@@ -2,10 +2,10 @@
 use Prim.Native.Nat.{ℕ, zero, suc, ◌+◌, ◌-◌, ◌*◌, ◌/◌, ◌%◌, ◌^◌, ◌<◌, ◌≤◌, min}
 use native.Mathlib.Nat.{pow-suc}
 use native.Mathlib.Omega.{arith}
-use mathlib.Core.Path.{◌≡◌, refl, ◌∙◌}
+use mathlib.Core.Path.{◌≡◌, refl, sym, ap, ◌∙◌}
 use mathlib.Core.List.{List, [], ◌∷◌, ◌++◌}
 use lib.ListN.{length, get_or, take, drop, set, length-append, length-take}
-use lib.Seq.{get_or-take, drop-cons, drop-append-add, sets}
+use lib.Seq.{get_or-append-add, get_or-take, drop-cons, drop-append-add, sets}
 use lib.IntN.{ℤ, pos, negsuc, ◌+ℤ◌}
 use mir.Syntax.{w32}
 use mir.Val.{of_z, SFits}
@@ -28,7 +28,11 @@ three_from s at l =
     rw (second, third, drop-cons s at 0 (omega arith), drop-cons s (suc at) 0 (omega arith), drop-cons s (suc (suc at)) 0 (omega arith)) refl
 
 module _ (s t : List ℕ) where
-  -- a sample that stands in the second of two lists
+  -- a byte of the second of two lists
+  pub byte_after : (k at : ℕ) → length s + k ≡ at → get_or t k 0 ≡ get_or (s ++ t) at 0
+  byte_after k at e = sym (get_or-append-add s t k 0) ∙ ap (λ n. get_or (s ++ t) n 0) e
+
+  -- and a sample that stands in it
   pub sample_after : (k i : ℕ) → length s + k ≡ sample_length * i → signed (number_at sample_length k t % 2 ^ 24) ≡ sample_at i (s ++ t)
   sample_after k i e = rw (← e, drop-append-add s t k)
 

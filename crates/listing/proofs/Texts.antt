@@ -1,12 +1,13 @@
--- Laws of a text in a buffer: no text, one text after another, and a looser bound; and of a number's digits, one by one.
+-- Laws of a text in a buffer: no text, one byte, one text after another, and a looser bound; and of a number's digits, one by one.
 use Prim.Native.Nat.{ℕ, zero, suc, ◌+◌, ◌-◌, ◌/◌, ◌%◌, ◌≤◌, ◌<◌}
 use native.Mathlib.Nat.{zero-add, add-zero, add_assoc, le_refl}
+use native.Mathlib.Numerals.{add-one}
 use native.Mathlib.Omega.{arith}
-use mathlib.Core.Path.{◌≡◌, sym, ap, ◌∙◌}
+use mathlib.Core.Path.{◌≡◌, refl, sym, ap, ◌∙◌}
 use mathlib.Core.List.{List, [], ◌∷◌, ◌++◌, append-nil, append_assoc}
 use borrow.Author.Tests.{lt-ltb, le-ltb}
-use lib.ListN.{length, take, drop, take-append-drop, length-append}
-use lib.Seq.{paste, take-paste, drop-paste, length-paste, take-length, drop-drop}
+use lib.ListN.{length, take, drop, set, take-append-drop, length-append}
+use lib.Seq.{set_split, append_snoc, paste, take-paste, drop-paste, length-paste, take-length, drop-drop}
 use Rattle.circuit.specs.Text.{digits}
 use Rattle.listing.specs.Writing.{Puts}
 
@@ -16,6 +17,14 @@ puts_none most at out h = record {
   ends = sym (add-zero at);
   inside = h;
   bytes = sym (rw add-zero (ap (λ (l : List ℕ). l ++ drop at out) (append-nil (take at out)) ∙ take-append-drop at out));
+}
+
+pub puts_byte : (b at : ℕ) (out : List ℕ) → at < length out → Puts 1 (b ∷ []) at out (at + 1) (set out at b)
+puts_byte b at out h = record {
+  short = omega arith;
+  ends = refl;
+  inside = omega arith;
+  bytes = rw add-one (set_split out at b h ∙ sym (append_snoc (take at out) b _));
 }
 
 module _ {m : ℕ} {t out mid : List ℕ} {at n : ℕ} (p : Puts m t at out n mid) where
