@@ -7,30 +7,30 @@ import subprocess
 import sys
 
 HERE = os.path.dirname(os.path.abspath(__file__))
-TARGET = os.path.join(os.path.dirname(HERE), "target")
+ROOT = os.path.dirname(HERE)
 
 
 def toolchain_home():
     guide = subprocess.run(["rt", "doc"], stdout=subprocess.PIPE, check=True, text=True).stdout.strip()
-    return os.path.dirname(os.path.dirname(guide))
+    return os.path.dirname(guide)
 
 
 HOME, MACHINE = toolchain_home(), platform.machine()
-TOOLS = os.path.join(HOME, "on", MACHINE, "toolchain")
+TOOLS = os.path.join(HOME, "toolchain")
 CLANG = os.path.join(TOOLS, "bin", "clang")
 LIBRARY = os.path.join(TOOLS, "lib")
 EMULATOR = os.path.join(TOOLS, "bin", "qemu-x86_64")
 EMULATED = os.access(EMULATOR, os.X_OK)  # where the machine is no x86-64
 
-TAKE = os.path.join(TARGET, "bin", "take")
-NATIVE_TAKE = os.path.join(TARGET, "native", "take") if EMULATED else TAKE
+TAKE = os.path.join(ROOT, "crates", "take", "out", "take")
+NATIVE_TAKE = os.path.join(HERE, "out", "take") if EMULATED else TAKE
 
 
 def measured(program, word=1):
     """The program to measure: the one that is named by the script's word of that number, or the one given."""
     program = sys.argv[word] if len(sys.argv) > word else program
     if not os.path.isfile(program):
-        raise SystemExit(f"no program {program}: `rt check take` builds take, and `speed/native` one for a machine that is no x86-64")
+        raise SystemExit(f"no program {program}: `./run take < /dev/null` builds take, and `speed/native` one for a machine that is no x86-64")
     return program
 
 
