@@ -1,7 +1,8 @@
 // What the programs share of their input: bytes and arguments.
 #![tactic(auto)]
 
-ghost use Rattle.std.specs.Prelude.{◌≡◌, ◌≤◌, length, IfOk, IfSome};
+ghost use Rattle.std.specs.Prelude.{◌≡◌, ◌<◌, ◌≤◌, length, take, IfOk, IfSome};
+ghost use Rattle.std.specs.Io.KnownBytes.{Consumes, IsAtEnd};
 
 use std::env::{Env, FillError};
 use std::io;
@@ -10,13 +11,15 @@ use std::io::Read;
 // Reads until the buffer is full or the input ends, and hands back how many bytes stand at its start.
 pub fn read_full<R: Read>(from: &mut R, bytes: &mut [u8]) -> io::Result<usize>
     ensures inside { IfOk result (λ n. n ≤ length bytes.new) }
+    ensures taken { IfOk result (λ n. Consumes (R.remaining from.old) (R.remaining from.new) (take n bytes.new)) }
+    ensures short { IfOk result (λ n. n < length bytes.new → IsAtEnd (R.remaining from.new)) }
     ensures size { length bytes.new ≡ length bytes.old }
 {
     let mut count = 0;
     while count < bytes.len() {
         let more = from.read(&mut bytes[count..])?;
         if more == 0 {
-            break;
+            return Ok(count);
         }
         count += more;
     }
