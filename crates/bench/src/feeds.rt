@@ -1,174 +1,283 @@
 // Takes: two samples fed whole, in threes and byte by byte, a refused sample and what comes after it, and both sides of each limit of a take.
 ghost use Rattle.std.specs.Prelude.{◌<◌, ◌≤◌};
 
+use crate::make;
 use crate::make::{case_1, case_8};
-use crate::tally::{Tally, agrees, answered, counted};
-use crate::work::{is_stored, same, stored};
-use crate::{labels, make, show};
-use circuit::{Answer, Carried, Feed, NO_SEGMENT, Record, SOURCE_LIMIT, TAKE_LIMIT};
+use crate::show::{Microvolts, Told};
+use crate::tally::{Answer, Bench};
+use crate::work::{STORING, stored};
+use circuit::{Carried, OUTPUT_LENGTH, Record, Refusal, SAMPLE_LENGTH, SOURCE_LIMIT, TAKE_LIMIT};
 use std::io;
 
 // What stands in a byte of the room before a call.
 const BEFORE: u8 = 77;
 
 // Two samples, and room for their outputs.
-type Samples = [u8; 6];
+type Samples = [u8; 2 * SAMPLE_LENGTH];
 
-type Room = [u8; 8];
+type Room = [u8; 2 * OUTPUT_LENGTH];
 
-// The last call of a take, and the room after all of them.
-#[derive(Clone, Copy)]
+// What the last call of a take hands back, and the room after all of them.
+#[derive(Clone, Copy, PartialEq, Eq)]
 struct Fed {
-    feed: Feed,
+    answer: Answer,
+    carried: Carried,
     room: Room,
 }
 
 // 4000 and 0: the outputs are 2000 and -1000.
-pub fn cases(rt: &HostRuntime, mut t: Tally) -> io::Result<Tally> {
+pub fn cases(bench: &mut Bench) -> io::Result<()> {
     let r = case_8();
     let bytes = [160, 15, 0, 0, 0, 0];
-    let room = [208, 7, 0, 0, 24, 252, 255, 255];
-    t = take_shown(rt, t, in_pieces(r, bytes, 6), 0, 0, 2, -1000, room)?;
-    t = take_shown(rt, t, in_pieces(r, bytes, 3), 0, 0, 2, -1000, room)?;
-    t = take_shown(rt, t, in_pieces(r, bytes, 1), 0, 0, 2, -1000, room)?;
-    t = refused_sample(rt, t)?;
-    t = limits(rt, t)?;
-    endings(rt, t)
+    let fed = Fed {
+        answer: Ok(()),
+        carried: Carried {
+            state: stored(-1000),
+            done: 2,
+            ..takes::start()
+        },
+        room: [208, 7, 0, 0, 24, 252, 255, 255],
+    };
+    thrice(bench, "case 8, samples 4000 and 0 fed", &r, bytes, fed)?;
+    refused_sample(bench)?;
+    limits(bench)?;
+    rooms(bench)?;
+    endings(bench)
 }
 
 // Two samples fed in pieces of this many bytes, each with room for the outputs of the samples that it makes whole.
-fn in_pieces(r: Record, bytes: Samples, piece: usize) -> Fed
+fn in_pieces(r: &Record, bytes: Samples, piece: usize) -> Fed
     requires { (0 < piece) × (piece ≤ 6) }
 {
-    let mut room = [BEFORE; 8];
-    let mut feed = Feed {
-        answer: Answer::Done,
-        done: 0,
-        segment: NO_SEGMENT,
-        carried: takes::start(),
-    };
-    let mut at: usize = 0;
-    while at + piece <= 6 {
-        let end = at + piece;
-        let carried = feed.carried;
-        feed = takes::feed(
-            r,
-            carried,
-            &bytes[at..end],
-            &mut room[at / 3 * 4..end / 3 * 4],
-        );
-        at = end;
+    let mut answer = Ok(());
+    let mut carried = takes::start();
+    let mut room = [BEFORE; 2 * OUTPUT_LENGTH];
+    for at in (0..bytes.len()).step_by(piece) {
+        let end = (at + piece).min(bytes.len());
+        let from = at / SAMPLE_LENGTH * OUTPUT_LENGTH;
+        let to = end / SAMPLE_LENGTH * OUTPUT_LENGTH;
+        let feed = takes::feed(r, carried, &bytes[at..end], &mut room[from..to]);
+        answer = feed.answer;
+        carried = feed.carried;
     }
-    Fed { feed, room }
+    Fed {
+        answer,
+        carried,
+        room,
+    }
 }
 
-// No byte is left over.
-fn ends_as(c: Carried, samples: u64, held: u64, wave: i32) -> bool {
-    let state = c.state;
-    (c.count == 0) & (c.done == samples) & (c.held as u64 == held) & is_stored(state, wave)
+fn take(bench: &mut Bench, name: &str, how: &str, fed: Fed, expected: Fed) -> io::Result<()> {
+    let carried = fed.carried;
+    bench.case(
+        name,
+        format_args!(
+            " {how}{}, samples done {}, stored {}",
+            Told(fed.answer),
+            carried.done,
+            Microvolts(carried.state.waves[STORING]),
+        ),
+        fed == expected,
+    )
 }
 
-fn take_shown(
-    rt: &HostRuntime,
-    t: Tally,
-    f: Fed,
-    number: u64,
-    place: u64,
-    samples: u64,
-    wave: i32,
-    room: Room,
-) -> io::Result<Tally> {
-    let feed = f.feed;
-    let answer = feed.answer;
-    let carried = feed.carried;
-    let state = carried.state;
-    let written = f.room;
-    labels::named(rt, t)?;
-    show::answer(rt, answer)?;
-    show::samples_done(rt, carried.done)?;
-    show::stored(rt, state)?;
-    let handed = agrees(answer, number, place) & ends_as(carried, samples, number, wave);
-    counted(rt, t, handed & same(&written, &room))
+// However it is fed, a take ends alike.
+fn thrice(
+    bench: &mut Bench,
+    name: &str,
+    r: &Record,
+    bytes: Samples,
+    expected: Fed,
+) -> io::Result<()> {
+    take(bench, name, "whole", in_pieces(r, bytes, 6), expected)?;
+    take(bench, name, "in threes", in_pieces(r, bytes, 3), expected)?;
+    take(
+        bench,
+        name,
+        "byte by byte",
+        in_pieces(r, bytes, 1),
+        expected,
+    )
 }
 
 // 0 and 1: with 0 the diode gets 67108864 microvolts, and with 1 one more. A call after it has a sample at hand, with and without room for
 // its output.
-fn refused_sample(rt: &HostRuntime, mut t: Tally) -> io::Result<Tally> {
+fn refused_sample(bench: &mut Bench) -> io::Result<()> {
     let r = make::sources(-SOURCE_LIMIT);
     let bytes = [0, 0, 0, 1, 0, 0];
-    let room = [208, 7, 0, 0, BEFORE, BEFORE, BEFORE, BEFORE];
-    t = take_shown(rt, t, in_pieces(r, bytes, 6), 15, 1, 1, 0, room)?;
-    t = take_shown(rt, t, in_pieces(r, bytes, 3), 15, 1, 1, 0, room)?;
-    t = take_shown(rt, t, in_pieces(r, bytes, 1), 15, 1, 1, 0, room)?;
-    let after = carrying(0, 0, 1, 15);
-    t = call(rt, t, r, after, 3, 4, 15, 1)?;
-    call(rt, t, r, after, 3, 0, 15, 1)
+    let fed = Fed {
+        answer: Err(Refusal::Overload(1)),
+        carried: Carried {
+            done: 1,
+            held: 15,
+            ..takes::start()
+        },
+        room: [208, 7, 0, 0, BEFORE, BEFORE, BEFORE, BEFORE],
+    };
+    let name = "67108864 and then 67108865 microvolts, fed";
+    thrice(bench, name, &r, bytes, fed)?;
+    let refused = carrying(0, 0, 1, 15);
+    call(
+        bench,
+        "a call after a refused sample",
+        &r,
+        refused,
+        &[0; 3],
+        &mut [BEFORE; 4],
+        fed.answer,
+    )?;
+    call(
+        bench,
+        "a call without room after a refused sample",
+        &r,
+        refused,
+        &[0; 3],
+        &mut [],
+        fed.answer,
+    )
 }
 
-// A wave in row 1, bytes left over, samples done and a refusal held.
-fn carrying(wave: i32, count: u8, samples: u64, held: u8) -> Carried {
+// A call with these bytes and this room.
+fn call(
+    bench: &mut Bench,
+    label: &str,
+    r: &Record,
+    carried: Carried,
+    bytes: &[u8],
+    room: &mut [u8],
+    expected: Answer,
+) -> io::Result<()> {
+    let feed = takes::feed(r, carried, bytes, room);
+    bench.answered(label, feed.answer, expected)
+}
+
+// A stored wave, bytes left over, samples done and a refusal held.
+fn carrying(wave: i32, count: u8, done: u64, held: u8) -> Carried {
     Carried {
         state: stored(wave),
         left: [8, 9],
         count,
-        done: samples,
+        done,
         held,
     }
 }
 
-// A call with this many bytes, all of them 0, and room for this many.
-fn call(
-    rt: &HostRuntime,
-    t: Tally,
-    r: Record,
+// A call with no byte and no room, with this carried.
+fn idle(
+    bench: &mut Bench,
+    label: &str,
+    r: &Record,
     carried: Carried,
-    bytes: usize,
-    out: usize,
-    number: u64,
-    place: u64,
-) -> io::Result<Tally>
-    requires { (bytes ≤ 3) × (out ≤ 8) }
-{
-    let zeros = [0u8; 3];
-    let mut room = [BEFORE; 8];
-    let feed = takes::feed(r, carried, &zeros[..bytes], &mut room[..out]);
-    let answer = feed.answer;
-    answered(rt, t, answer, number, place)
+    expected: Answer,
+) -> io::Result<()> {
+    call(bench, label, r, carried, &[], &mut [], expected)
 }
 
-// What is carried, in a call with no byte and no room; then the room, where one byte is left over, so that two more make a sample and one does
-// not.
-fn limits(rt: &HostRuntime, mut t: Tally) -> io::Result<Tally> {
+fn limits(bench: &mut Bench) -> io::Result<()> {
+    const OUTSIDE: Answer = Err(Refusal::Waves(255));
+    // how many bytes are left over, how many samples are done, and what is held
+    const CARRIED: [(&str, u8, u64, u8, Answer); 6] = [
+        ("two bytes left over", 2, 0, 0, Ok(())),
+        ("three bytes left over", 3, 0, 0, OUTSIDE),
+        ("2^62 samples done", 0, TAKE_LIMIT, 0, Ok(())),
+        ("2^62 + 1 samples done", 0, TAKE_LIMIT + 1, 0, OUTSIDE),
+        ("a held refusal of 14", 0, 0, 14, OUTSIDE),
+        ("a held refusal of 15", 2, 6, 15, Err(Refusal::Overload(6))),
+    ];
     let r = case_1();
-    t = call(rt, t, r, carrying(0, 2, 0, 0), 0, 0, 0, 0)?;
-    t = call(rt, t, r, carrying(0, 3, 0, 0), 0, 0, 12, 255)?;
-    t = call(rt, t, r, carrying(0, 0, TAKE_LIMIT, 0), 0, 0, 0, 0)?;
-    t = call(rt, t, r, carrying(0, 0, TAKE_LIMIT + 1, 0), 0, 0, 12, 255)?;
-    t = call(rt, t, r, carrying(0, 0, 0, 14), 0, 0, 12, 255)?;
-    t = call(rt, t, r, carrying(0, 2, 6, 15), 0, 0, 15, 6)?;
-    t = call(rt, t, r, carrying(1, 3, 0, 15), 0, 0, 12, 1)?;
-    t = call(
-        rt,
-        t,
-        make::with_version(r, 3),
-        carrying(1, 3, 0, 15),
-        0,
-        0,
-        3,
-        0,
+    for (label, count, done, held, expected) in CARRIED {
+        idle(bench, label, &r, carrying(0, count, done, held), expected)?;
+    }
+    let carried = carrying(1, 3, 0, 15);
+    idle(
+        bench,
+        "three bytes left over and a wave in a resistor",
+        &r,
+        carried,
+        Err(Refusal::Waves(1)),
     )?;
-    let left = carrying(0, 1, 0, 0);
-    t = call(rt, t, r, left, 2, 4, 0, 0)?;
-    t = call(rt, t, r, left, 2, 3, 16, 0)?;
-    t = call(rt, t, r, left, 2, 8, 16, 0)?;
-    call(rt, t, r, left, 1, 4, 16, 0)
+    let third = Record { version: 3, ..r };
+    idle(
+        bench,
+        "the same in version 3",
+        &third,
+        carried,
+        Err(Refusal::Version),
+    )
 }
 
-fn endings(rt: &HostRuntime, mut t: Tally) -> io::Result<Tally> {
+// The room, where one byte is left over, so that two more make a sample and one does not.
+fn rooms(bench: &mut Bench) -> io::Result<()> {
     let r = case_1();
-    t = answered(rt, t, takes::finish(r, takes::start()), 0, 0)?;
-    t = answered(rt, t, takes::finish(r, carrying(0, 0, 6, 0)), 0, 0)?;
-    t = answered(rt, t, takes::finish(r, carrying(0, 1, 6, 0)), 17, 6)?;
-    t = answered(rt, t, takes::finish(r, carrying(0, 1, 6, 15)), 15, 6)?;
-    answered(rt, t, takes::finish(r, carrying(0, 3, 6, 15)), 12, 255)
+    let carried = carrying(0, 1, 0, 0);
+    let refused = Err(Refusal::Room);
+    call(
+        bench,
+        "a sample and room for one output",
+        &r,
+        carried,
+        &[0; 2],
+        &mut [BEFORE; 4],
+        Ok(()),
+    )?;
+    call(
+        bench,
+        "a sample and room for three bytes",
+        &r,
+        carried,
+        &[0; 2],
+        &mut [BEFORE; 3],
+        refused,
+    )?;
+    call(
+        bench,
+        "a sample and room for two outputs",
+        &r,
+        carried,
+        &[0; 2],
+        &mut [BEFORE; 8],
+        refused,
+    )?;
+    call(
+        bench,
+        "no sample and room for one output",
+        &r,
+        carried,
+        &[0; 1],
+        &mut [BEFORE; 4],
+        refused,
+    )
+}
+
+fn endings(bench: &mut Bench) -> io::Result<()> {
+    // how many bytes are left over after six samples, and what is held
+    const AFTER_SIX: [(&str, u8, u8, Answer); 4] = [
+        ("the end after 6 samples", 0, 0, Ok(())),
+        (
+            "the end after 6 samples and a byte",
+            1,
+            0,
+            Err(Refusal::LeftOver(6)),
+        ),
+        (
+            "the end after a refused sample",
+            1,
+            15,
+            Err(Refusal::Overload(6)),
+        ),
+        (
+            "the end with three bytes left over",
+            3,
+            15,
+            Err(Refusal::Waves(255)),
+        ),
+    ];
+    let r = case_1();
+    let answer = takes::finish(&r, takes::start());
+    bench.answered("the end of a take without a byte", answer, Ok(()))?;
+    for (label, count, held, expected) in AFTER_SIX {
+        let answer = takes::finish(&r, carrying(0, count, 6, held));
+        bench.answered(label, answer, expected)?;
+    }
+    Ok(())
 }

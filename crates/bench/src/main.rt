@@ -5,7 +5,6 @@
 mod feeds;
 mod files;
 mod knees;
-mod labels;
 mod lights;
 mod make;
 mod runs;
@@ -15,17 +14,17 @@ mod show;
 mod tally;
 mod work;
 
-use crate::tally::Tally;
+use crate::tally::Bench;
 use std::io;
 
 fn main(rt: HostRuntime) -> io::Result<()> {
-    let mut t = Tally { cases: 0, agree: 0 };
-    t = set_ups::cases(&rt, t)?;
-    t = samples::cases(&rt, t)?;
-    t = runs::cases(&rt, t)?;
-    t = files::cases(&rt, t)?;
-    t = feeds::cases(&rt, t)?;
-    t = knees::cases(&rt, t)?;
-    t = lights::cases(&rt, t)?;
-    tally::shown(&rt, t)
+    let mut bench = Bench::new(&rt);
+    set_ups::cases(&mut bench)?;
+    samples::cases(&mut bench)?;
+    runs::cases(&mut bench)?;
+    files::cases(&mut bench)?;
+    feeds::cases(&mut bench)?;
+    knees::cases(&mut bench)?;
+    lights::cases(&mut bench)?;
+    bench.summary()
 }

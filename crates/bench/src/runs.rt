@@ -1,122 +1,226 @@
 // Runs from stored waves: case 8, a capacitor, both reversed, what a refusal leaves, and both sides of each limit of a run.
-ghost use Rattle.std.specs.Prelude.{◌≤◌};
-
-use crate::make::{case_1, case_8};
-use crate::show::BEFORE;
-use crate::tally::{Tally, agrees, answered, counted};
-use crate::work::{is_stored, stored, work};
-use crate::{labels, make, show};
-use circuit::Record;
+use crate::make::{capacitor, case_1, case_8, large_inductor, reversed, sources};
+use crate::show::{Microvolts, Output, Told};
+use crate::tally::Bench;
+use crate::work::{BEFORE, Ran, STORING, of_sample, run, stored};
+use circuit::{Record, Refusal};
 use std::io;
 
-pub fn cases(rt: &HostRuntime, mut t: Tally) -> io::Result<Tally> {
+pub fn cases(bench: &mut Bench) -> io::Result<()> {
     let r = case_8();
-    t = sample(rt, t, r, 0, 4000, 0, 0, 2000, -2000)?;
-    t = sample(rt, t, r, -2000, 0, 0, 0, -1000, -1000)?;
-    t = two_samples(rt, t, r, 4000, 0, 0, 0, 2, 2000, -1000, -1000)?;
-    let r = make::capacitor();
-    t = sample(rt, t, r, 0, 4000, 0, 0, 2000, 2000)?;
-    t = sample(rt, t, r, 2000, -4000, 0, 0, -2000, -4000)?;
-    t = two_samples(rt, t, r, 4000, -4000, 0, 0, 2, 2000, -2000, -4000)?;
-    let r = make::reversed(case_8(), 1);
-    t = two_samples(rt, t, r, 4000, 0, 0, 0, 2, -2000, 1000, 1000)?;
-    let r = make::reversed(make::capacitor(), 1);
-    t = sample(rt, t, r, -2000, -4000, 0, 0, 2000, 4000)?;
-    t = two_samples(rt, t, r, 4000, -4000, 0, 0, 2, -2000, 2000, 4000)?;
-    // Where a later sample is refused, the first one's output and wave stay, and the second output is as it was.
-    t = two_samples(
-        rt,
-        t,
-        case_8(),
-        4000,
-        16777217,
-        14,
-        1,
-        1,
-        2000,
-        BEFORE,
-        -2000,
+    sample(bench, "case 8", &r, 0, 4000, Ok((2000, -2000)))?;
+    sample(bench, "case 8", &r, -2000, 0, Ok((-1000, -1000)))?;
+    two_samples(
+        bench,
+        "case 8, samples 4000 and 0 in one run",
+        &r,
+        [4000, 0],
+        done([2000, -1000], -1000),
     )?;
-    let r = make::sources(-1);
-    t = two_samples(rt, t, r, 16777215, 16777216, 15, 1, 1, 2000, BEFORE, 0)?;
-    limits(rt, t)
+    let r = capacitor();
+    sample(bench, "a capacitor", &r, 0, 4000, Ok((2000, 2000)))?;
+    sample(bench, "a capacitor", &r, 2000, -4000, Ok((-2000, -4000)))?;
+    two_samples(
+        bench,
+        "a capacitor, samples 4000 and -4000 in one run",
+        &r,
+        [4000, -4000],
+        done([2000, -2000], -4000),
+    )?;
+    turned(bench)?;
+    refused(bench)?;
+    limits(bench)?;
+    lengths(bench)
 }
 
-// At the large inductor's leaf, where the top's wave is far within its limit; of a stored wave; and of the lengths.
-fn limits(rt: &HostRuntime, mut t: Tally) -> io::Result<Tally> {
-    let r = make::large_inductor();
-    t = sample(rt, t, r, -67106864, 16777216, 0, 0, 2000, -67108864)?;
-    t = sample(rt, t, r, -67106865, 16777216, 15, 0, BEFORE, -67106865)?;
+// Case 8 and the capacitor the other way round.
+fn turned(bench: &mut Bench) -> io::Result<()> {
+    two_samples(
+        bench,
+        "case 8, its inductor reversed, samples 4000 and 0 in one run",
+        &reversed(case_8(), 1),
+        [4000, 0],
+        done([-2000, 1000], 1000),
+    )?;
+    let r = reversed(capacitor(), 1);
+    sample(
+        bench,
+        "a reversed capacitor",
+        &r,
+        -2000,
+        -4000,
+        Ok((2000, 4000)),
+    )?;
+    two_samples(
+        bench,
+        "a reversed capacitor, samples 4000 and -4000 in one run",
+        &r,
+        [4000, -4000],
+        done([-2000, 2000], 4000),
+    )
+}
+
+// Where a later sample is refused, the first one's output and wave stay, and the second output is as it was.
+fn refused(bench: &mut Bench) -> io::Result<()> {
+    two_samples(
+        bench,
+        "case 8, samples 4000 and 16777217",
+        &case_8(),
+        [4000, 16777217],
+        Ran {
+            answer: Err(Refusal::Sample(1)),
+            done: 1,
+            outputs: [2000, BEFORE],
+            state: stored(-2000),
+        },
+    )?;
+    two_samples(
+        bench,
+        "67108864 and then 67108865 microvolts at the diode",
+        &sources(-1),
+        [16777215, 16777216],
+        Ran {
+            answer: Err(Refusal::Overload(1)),
+            done: 1,
+            outputs: [2000, BEFORE],
+            state: stored(0),
+        },
+    )
+}
+
+// At the large inductor's leaf, where the top's wave is far within its limit; and of a stored wave.
+fn limits(bench: &mut Bench) -> io::Result<()> {
+    let r = large_inductor();
+    sample(
+        bench,
+        "67108864 microvolts at a leaf",
+        &r,
+        -67106864,
+        16777216,
+        Ok((2000, -67108864)),
+    )?;
+    sample(
+        bench,
+        "67108865 microvolts at a leaf",
+        &r,
+        -67106865,
+        16777216,
+        Err(Refusal::Overload(0)),
+    )?;
     let r = case_8();
-    t = sample(rt, t, r, 67108864, 0, 0, 0, 2000, 67106864)?;
-    t = sample(rt, t, r, 67108865, 0, 12, 1, BEFORE, 67108865)?;
+    sample(bench, "an inductor", &r, 67108864, 0, Ok((2000, 67106864)))?;
+    sample(
+        bench,
+        "an inductor",
+        &r,
+        67108865,
+        0,
+        Err(Refusal::Waves(1)),
+    )?;
     let r = case_1();
-    t = sample(rt, t, r, 1, 0, 12, 1, BEFORE, 1)?;
-    t = sample(rt, t, make::with_version(r, 3), 1, 0, 3, 0, BEFORE, 1)?;
-    t = length(rt, t, r, 2, 13)?;
-    t = length(rt, t, r, 0, 13)?;
-    length(rt, t, make::with_rate(r, 7999), 2, 5)
+    sample(bench, "a resistor", &r, 1, 0, Err(Refusal::Waves(1)))?;
+    sample(
+        bench,
+        "a resistor in version 3",
+        &Record { version: 3, ..r },
+        1,
+        0,
+        Err(Refusal::Version),
+    )
 }
 
-// One sample, with this wave stored before it; what it should answer, the output and the stored wave after it.
+fn lengths(bench: &mut Bench) -> io::Result<()> {
+    let r = case_1();
+    length(
+        bench,
+        "two samples and room for one",
+        &r,
+        &[0; 2],
+        Refusal::Lengths,
+    )?;
+    length(
+        bench,
+        "no sample and room for one",
+        &r,
+        &[],
+        Refusal::Lengths,
+    )?;
+    length(
+        bench,
+        "two samples and room for one, rate 7999",
+        &Record { rate: 7999, ..r },
+        &[0; 2],
+        Refusal::Rate,
+    )
+}
+
+// One sample, with this wave stored before it; its output and the stored wave after it. A refusal leaves both as they are.
 fn sample(
-    rt: &HostRuntime,
-    t: Tally,
-    r: Record,
+    bench: &mut Bench,
+    label: &str,
+    r: &Record,
     wave: i32,
     x: i32,
-    number: u64,
-    place: u64,
-    output: i32,
-    after: i32,
-) -> io::Result<Tally> {
-    labels::named(rt, t)?;
-    show::stored(rt, stored(wave))?;
-    show::text(rt, b", sample ")?;
-    let w = work(rt, r, wave, x, number, place, output, after)?;
-    let state = w.state;
-    show::stored(rt, state)?;
-    counted(rt, t, w.right)
+    expected: Result<(i32, i32), Refusal>,
+) -> io::Result<()> {
+    let ran = run(r, wave, [x]);
+    let [output] = ran.outputs;
+    bench.case(
+        label,
+        format_args!(
+            ", stored {}, sample {}{}{}, stored {}",
+            Microvolts(wave),
+            Microvolts(x),
+            Told(ran.answer),
+            Output(output),
+            Microvolts(ran.state.waves[STORING]),
+        ),
+        ran == of_sample(wave, expected),
+    )
 }
 
-// Two samples from a fresh state; what they should answer, how many of them are done, the outputs and the stored wave after them.
+// Two samples done, with these outputs and the stored wave after them.
+fn done(outputs: [i32; 2], wave: i32) -> Ran<2> {
+    Ran {
+        answer: Ok(()),
+        done: 2,
+        outputs,
+        state: stored(wave),
+    }
+}
+
+// Two samples from a fresh state.
 fn two_samples(
-    rt: &HostRuntime,
-    t: Tally,
-    r: Record,
-    x: i32,
-    y: i32,
-    number: u64,
-    place: u64,
-    done: usize,
-    first: i32,
-    second: i32,
-    after: i32,
-) -> io::Result<Tally> {
-    let input = [x, y];
-    let mut out = [BEFORE; 2];
-    let run = engine::run(r, setup::fresh(), &input, &mut out);
-    let answer = run.answer;
-    let state = run.state;
-    let before = out[0];
-    let behind = out[1];
-    labels::named(rt, t)?;
-    show::answer(rt, answer)?;
-    show::samples_done(rt, run.done as u64)?;
-    show::output(rt, before)?;
-    show::output(rt, behind)?;
-    show::stored(rt, state)?;
-    let handed = agrees(answer, number, place) & (run.done == done) & is_stored(state, after);
-    counted(rt, t, handed & (before == first) & (behind == second))
+    bench: &mut Bench,
+    label: &str,
+    r: &Record,
+    input: [i32; 2],
+    expected: Ran<2>,
+) -> io::Result<()> {
+    let ran = run(r, 0, input);
+    let [first, second] = ran.outputs;
+    bench.case(
+        label,
+        format_args!(
+            "{}, samples done {}{}{}, stored {}",
+            Told(ran.answer),
+            ran.done,
+            Output(first),
+            Output(second),
+            Microvolts(ran.state.waves[STORING]),
+        ),
+        ran == expected,
+    )
 }
 
-// This many samples and room for one output.
-fn length(rt: &HostRuntime, t: Tally, r: Record, samples: usize, number: u64) -> io::Result<Tally>
-    requires { samples ≤ 2 }
-{
-    let zeros = [0i32; 2];
-    let mut out = [BEFORE];
-    let run = engine::run(r, setup::fresh(), &zeros[..samples], &mut out);
-    let answer = run.answer;
-    answered(rt, t, answer, number, 0)
+// These samples and room for one output.
+fn length(
+    bench: &mut Bench,
+    label: &str,
+    r: &Record,
+    input: &[i32],
+    refusal: Refusal,
+) -> io::Result<()> {
+    let run = engine::run(r, setup::fresh(), input, &mut [BEFORE]);
+    bench.answered(label, run.answer, Err(refusal))
 }

@@ -1,49 +1,49 @@
-// How many cases there are, and how many agree with what they should be. What a case should answer is the number and the place of a refusal
-// of the paper's table, and 0 and 0 where it is done.
-use crate::{labels, show};
-use circuit::Answer;
+// Where the cases are printed and counted.
+use crate::show::Told;
+use circuit::Refusal;
+use std::fmt::Display;
 use std::io;
-use std::num::wrapping_add_u64;
 
-#[derive(Clone, Copy)]
-pub struct Tally {
-    pub cases: u64,
-    pub agree: u64,
+// What a call hands back: nothing but that it is done, or why it is refused.
+pub type Answer = Result<(), Refusal>;
+
+#[derive(Drop)]
+pub struct Bench<'a> {
+    rt: &'a HostRuntime,
+    cases: u64,
+    // how many of them agree with what they should be
+    agree: u64,
 }
 
-pub fn agrees(a: Answer, number: u64, place: u64) -> bool {
-    (a.number() == number) & (a.place() == place)
-}
-
-// A case that hands back an answer and nothing else.
-pub fn answered(
-    rt: &HostRuntime,
-    t: Tally,
-    a: Answer,
-    number: u64,
-    place: u64,
-) -> io::Result<Tally> {
-    labels::named(rt, t)?;
-    show::answer(rt, a)?;
-    counted(rt, t, agrees(a, number, place))
-}
-
-// Ends a case's line.
-pub fn counted(rt: &HostRuntime, t: Tally, agrees: bool) -> io::Result<Tally> {
-    if agrees {
-        show::text(rt, b"\n")?;
-    } else {
-        show::text(rt, b", WHICH IS WRONG\n")?;
+impl<'a> Bench<'a> {
+    pub fn new(rt: &'a HostRuntime) -> Self {
+        Bench {
+            rt,
+            cases: 0,
+            agree: 0,
+        }
     }
-    Ok(Tally {
-        cases: wrapping_add_u64(t.cases, 1),
-        agree: wrapping_add_u64(t.agree, agrees as u64),
-    })
-}
 
-pub fn shown(rt: &HostRuntime, t: Tally) -> io::Result<()> {
-    show::number(rt, t.agree)?;
-    show::text(rt, b" of ")?;
-    show::number(rt, t.cases)?;
-    show::text(rt, b" cases agree\n")
+    // A case's line: what it is called, what it handed back, and whether that is wrong.
+    pub fn case(&mut self, label: &str, told: impl Display + Drop, agrees: bool) -> io::Result<()> {
+        self.cases = self.cases.wrapping_add(1);
+        self.agree = self.agree.wrapping_add(agrees as u64);
+        let verdict = if agrees { "" } else { ", WHICH IS WRONG" };
+        println!(self.rt; "{label}{told}{verdict}")
+    }
+
+    // A case of which only the answer is shown.
+    pub fn answered<T: Drop>(
+        &mut self,
+        label: &str,
+        found: Result<T, Refusal>,
+        expected: Answer,
+    ) -> io::Result<()> {
+        let answer = found.and(Ok(()));
+        self.case(label, Told(answer), answer == expected)
+    }
+
+    pub fn summary(&self) -> io::Result<()> {
+        println!(self.rt; "{} of {} cases agree", self.agree, self.cases)
+    }
 }

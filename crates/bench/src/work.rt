@@ -1,71 +1,48 @@
-// What the cases share: one sample worked through a circuit, the wave that it stores in row 1, and bytes compared.
-use crate::show;
-use crate::show::BEFORE;
-use crate::tally::agrees;
-use circuit::{ROWS, Record, State};
-use std::io;
+// What the cases share: a run, and the states that it begins and ends with.
+use crate::tally::Answer;
+use circuit::{Record, Refusal, State};
 
-#[derive(Clone, Copy)]
-pub struct Worked {
-    pub right: bool,
+// What stands in an output before a run.
+pub const BEFORE: i32 = 77;
+
+// The row of the only leaf that can store a wave in the bench's circuits.
+pub const STORING: usize = 1;
+
+// What a run hands back, with its outputs.
+#[derive(Clone, Copy, PartialEq, Eq)]
+pub struct Ran<const N: usize> {
+    pub answer: Answer,
+    pub done: usize,
+    pub outputs: [i32; N],
     pub state: State,
 }
 
-// A sample from this stored wave, and whether the answer, the output and the stored wave after it are these. A sample that is refused is not
-// done.
-pub fn work(
-    rt: &HostRuntime,
-    r: Record,
-    wave: i32,
-    x: i32,
-    number: u64,
-    place: u64,
-    output: i32,
-    after: i32,
-) -> io::Result<Worked> {
-    let input = [x];
-    let mut out = [BEFORE];
-    let run = engine::run(r, stored(wave), &input, &mut out);
-    let answer = run.answer;
-    let state = run.state;
-    let handed = out[0];
-    show::microvolts(rt, x)?;
-    show::answer(rt, answer)?;
-    show::output(rt, handed)?;
-    let done = (number == 0) as usize;
-    let right = agrees(answer, number, place) & (run.done == done) & (handed == output);
-    Ok(Worked {
-        right: right & is_stored(state, after),
-        state,
-    })
+// These samples from this stored wave.
+pub fn run<const N: usize>(r: &Record, wave: i32, input: [i32; N]) -> Ran<N> {
+    let mut outputs = [BEFORE; N];
+    let run = engine::run(r, stored(wave), &input, &mut outputs);
+    Ran {
+        answer: run.answer,
+        done: run.done,
+        outputs,
+        state: run.state,
+    }
 }
 
-// A fresh state, but for this wave in row 1.
+// What a sample should hand back: its output and the stored wave after it, or its refusal, which leaves both as they are.
+pub fn of_sample(wave: i32, expected: Result<(i32, i32), Refusal>) -> Ran<1> {
+    let (output, after) = expected.unwrap_or((BEFORE, wave));
+    Ran {
+        answer: expected.and(Ok(())),
+        done: expected.is_ok() as usize,
+        outputs: [output],
+        state: stored(after),
+    }
+}
+
+// A fresh state, but for this stored wave.
 pub fn stored(wave: i32) -> State {
-    let fresh = setup::fresh();
-    let mut waves = fresh.waves;
-    waves[1] = wave;
-    State { waves }
-}
-
-pub fn is_stored(state: State, wave: i32) -> bool {
-    let waves = state.waves;
-    let wanted = stored(wave);
-    let right = wanted.waves;
-    let mut same = true;
-    for j in 0..ROWS {
-        same = same & (waves[j] == right[j]);
-    }
-    same
-}
-
-// Whether two parts are the same.
-pub fn same(a: &[u8], b: &[u8]) -> bool {
-    let mut all = a.len() == b.len();
-    for i in 0..a.len() {
-        if i < b.len() {
-            all = all & (a[i] == b[i]);
-        }
-    }
-    all
+    let mut state = setup::fresh();
+    state.waves[STORING] = wave;
+    state
 }

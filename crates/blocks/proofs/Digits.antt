@@ -1,13 +1,16 @@
--- The laws of a number by its bytes, over how many bytes there are: from bytes to the number and back, a byte of a number, and the range.
-use mathlib.Core.Path.{◌≡◌, refl, sym, ap, ◌∙◌}
-use Prim.Native.Nat.{ℕ, zero, suc, ◌+◌, ◌-◌, ◌*◌, ◌/◌, ◌%◌, ◌^◌, ◌<◌, ◌≤◌}
-use native.Mathlib.Nat.{div-add-mod', div-lt_iff_lt-mul, pow-suc, lt_of_lt_of_le, pow-le-pow_right, pow-succ', div-div-eq-div-mul, div-one, not-suc-le-zero, le_of_suc-le-suc}
+-- The laws of a number by its bytes, over how many bytes there are: from bytes to the number and back, the range, a byte alone, and the
+-- library's words for the same.
+use mathlib.Core.Path.{◌≡◌, refl, sym, ap, ap₂, ◌∙◌}
+use Prim.Native.Nat.{ℕ, zero, suc, ◌+◌, ◌*◌, ◌/◌, ◌%◌, ◌^◌, ◌<◌, ◌≤◌}
+use native.Mathlib.Nat.{div-add-mod', div-lt_iff_lt-mul, pow-suc, div-div-eq-div-mul, div-one, mod-eq_of_lt, le_refl, add-zero}
 use native.Mathlib.Omega.{arith}
-use mathlib.Core.List.{List, [], ◌∷◌}
+use mathlib.Core.List.{List, [], ◌∷◌, ◌++◌}
 use lib.ListN.{length, get_or, take, drop, length-drop}
 use lib.Arith.{lt-one}
 use lib.Dec.{lit<}
-use lib.Seq.{get_or-drop, slice, slice-cons, slice_empty, length-slice, length-take-le}
+use lib.Seq.{get_or-drop, length-take-le, take-suc, take-take}
+use Rattle.std.specs.Int as library
+use Rattle.std.specs.Int.{bytes_low_first, byte_worth, sum_through}
 use mir.Syntax.{w8}
 use mir.Val.{Fits}
 use Rattle.circuit.specs.File.{bytes, number_of, number_at}
@@ -34,9 +37,6 @@ number_lt : (l : List ℕ) → Bytes l → number_of l < 256 ^ length l
 unfolding number_of
 number_lt [] b = lit< tt
 number_lt (x ∷ l) b = omega (arith, pow-suc 256 (length l), number_lt l (λ i. b (suc i)), b 0)
-
-number_below : (m : ℕ) (l : List ℕ) → Bytes l → length l ≤ m → number_of l < 256 ^ m
-number_below m l b h = lt_of_lt_of_le (number_lt l b) (pow-le-pow_right (lit< tt) h)
 
 -- ---- there and back
 
@@ -66,14 +66,6 @@ length_bytes (suc k) n = ap suc (length_bytes k (n / 256))
 pub digit_more : (n i : ℕ) → n / 256 ^ i / 256 ≡ n / 256 ^ suc i
 digit_more n i = div-div-eq-div-mul n (256 ^ i) 256 ∙ ap (λ (x : ℕ). n / x) (sym (pow-suc 256 i))
 
-pub digit : (k n i : ℕ) → i < k → get_or (bytes k n) i 0 ≡ n / 256 ^ i % 256
-unfolding bytes
-digit zero n i h = absurd (not-suc-le-zero h)
-digit (suc k) n zero h = ap (λ (x : ℕ). x % 256) (sym (div-one n))
-digit (suc k) n (suc i) h =
-    digit k (n / 256) i (le_of_suc-le-suc h)
-    ∙ ap (λ (x : ℕ). x % 256) (div-div-eq-div-mul n 256 (256 ^ i) ∙ ap (λ (x : ℕ). n / x) (sym (pow-succ' 256 i)))
-
 -- ---- k bytes in their place, from `at` on
 
 pub part_room : (at k : ℕ) (l : List ℕ) → at + k ≤ length l → k ≤ length (drop at l)
@@ -91,18 +83,49 @@ module _ (s : List ℕ) (b : Bytes s) (at k : ℕ) (h : at + k ≤ length s) whe
       ap (λ (m : ℕ). bytes m (number_at k at s)) (sym part_length)
       ∙ bytes_number (take k (drop at s)) (bytes_take k (drop at s) (bytes_drop at s b))
 
-  -- the bytes from i on: what a loop has read that goes down to i
-  pub slice_below : (i m : ℕ) → k - i ≤ m → number_of (slice i k (drop at s)) < 256 ^ m
-  slice_below i m d =
-      number_below m (slice i k (drop at s)) (bytes_drop i (take k (drop at s)) (bytes_take k (drop at s) (bytes_drop at s b)))
-      (rw (length-slice i k (drop at s) (part_room at k s h)) d)
+-- ---- a byte alone
 
-  pub slice_step : (j i : ℕ) → suc j ≡ i → i ≤ k → number_of (slice j k (drop at s)) ≡ get_or s (at + j) 0 + 256 * number_of (slice i k (drop at s))
-  unfolding number_of
-  slice_step j i e g =
-      ap number_of (slice-cons j k (drop at s) 0 (omega arith) (part_room at k s h))
-      ∙ rw (get_or-drop at s j 0, ← e)
+pub byte_alone : (n : ℕ) → n < 256 → bytes 1 n ≡ n ∷ []
+unfolding bytes
+byte_alone n h = ap (λ (x : ℕ). x ∷ []) (mod-eq_of_lt h)
 
-pub slice_none : (k : ℕ) (l : List ℕ) → 0 ≡ number_of (slice k k l)
+first_byte : (l : List ℕ) → number_of (take 1 l) ≡ get_or l 0 0
 unfolding number_of
-slice_none k l = sym (ap number_of (slice_empty k l))
+first_byte [] = refl
+first_byte (x ∷ l) = omega arith
+
+pub byte_at : (at : ℕ) (s : List ℕ) → get_or s at 0 ≡ number_at 1 at s
+byte_at at s = sym (first_byte (drop at s) ∙ get_or-drop at s 0 0 ∙ ap (λ (i : ℕ). get_or s i 0) (add-zero at))
+
+-- ---- the library's words for the same
+
+byte_is : (i n : ℕ) → library.byte_at i n ≡ n / 256 ^ i % 256
+byte_is zero n = ap (λ (x : ℕ). x % 256) (sym (div-one n))
+byte_is (suc i) n = refl
+
+le_from : (i k n : ℕ) → bytes_low_first i k n ≡ bytes k (n / 256 ^ i)
+unfolding bytes
+le_from i zero n = refl
+le_from i (suc k) n = ap₂ ◌∷◌ (byte_is i n) (le_from (suc i) k n ∙ ap (bytes k) (sym (digit_more n i)))
+
+pub le_bytes : (k n : ℕ) → bytes_low_first 0 k n ≡ bytes k n
+le_bytes k n = le_from 0 k n ∙ ap (bytes k) (div-one n)
+
+number_snoc : (l : List ℕ) (b : ℕ) → number_of (l ++ (b ∷ [])) ≡ number_of l + b * 256 ^ length l
+unfolding number_of
+number_snoc [] b = omega arith
+number_snoc (x ∷ l) b = omega (arith, number_snoc l b, ap (λ (p : ℕ). b * p) (pow-suc 256 (length l)))
+
+le_number : (k : ℕ) (l : List ℕ) → k < length l → sum_through (λ i. byte_worth i (get_or l i 0)) k ≡ number_of (take (suc k) l)
+le_number zero l h = sym (first_byte l)
+le_number (suc k) l h =
+    let front : length (take (suc k) l) ≡ suc k = length-take-le (suc k) l (omega arith) in
+    rw (take-suc l (suc k) 0 h, number_snoc, front, le_number k l (omega arith)) refl
+
+-- of bytes that are cut out
+pub le_at : (k at : ℕ) (s : List ℕ) → at + suc k ≤ length s → {l : List ℕ} → l ≡ take (suc k) (drop at s)
+    → sum_through (λ i. byte_worth i (get_or l i 0)) k ≡ number_at (suc k) at s
+le_at k at s room {l} e =
+    ap (λ (l : List ℕ). sum_through (λ i. byte_worth i (get_or l i 0)) k) e
+    ∙ le_number k (take (suc k) (drop at s)) (rw (length-take-le (suc k) (drop at s) (part_room at (suc k) s room)) (omega arith))
+    ∙ ap number_of (take-take (suc k) (suc k) (drop at s) (le_refl _))

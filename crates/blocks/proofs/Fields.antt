@@ -1,20 +1,29 @@
--- The fields of a row, of a column and of the heading, entered one after another; and the kinds by their numbers.
-use mathlib.Core.Path.{◌≡◌, refl, ap, ◌∙◌}
-use Prim.Native.Nat.{ℕ, zero, suc, ◌+◌, ◌≤◌, zero-le}
+-- The fields of a row, of a column and of the heading, entered one after another; and the fields that a part is written as.
+use mathlib.Core.Path.{◌≡◌, refl, sym, ap, ap₂, ◌∙◌}
+use Prim.Native.Nat.{ℕ, ◌+◌, ◌≤◌, zero-le}
 use native.Mathlib.Omega.{arith}
-use mathlib.Core.List.{List, ◌++◌}
+use mathlib.Core.Bool.{Bool, true, false}
+use mathlib.Core.List.{List, [], ◌∷◌, ◌++◌, append_assoc}
 use lib.ListN.{length}
 use lib.IntN.{ℤ}
-use lib.Ieee.{Float, binary64, to_bits}
+use lib.Ieee.{Float, binary64, to_bits, of_bits}
 use mir.Syntax.{w32}
 use mir.Val.{of_z}
-use Rattle.circuit.specs.File.{block_length, bytes, zeros, row_fields, column_fields, part_of, kind_number, kind_of, heading}
+use Rattle.std.specs.Int.{from_bool}
+use Rattle.circuit.specs.Counting.{one}
+use Rattle.circuit.specs.File.{block_length, bytes, float_bytes, zeros, part_fields, row_bytes, column_fields, part_of, kind_number, heading}
 use Rattle.circuit.specs.declared.Column.{Column}
-use Rattle.circuit.specs.declared.CurveKind.TheVariants.{Unset}
+use Rattle.circuit.specs.declared.Part.{Part}
+use Rattle.circuit.specs.declared.Row.{Row}
 use Rattle.circuit.specs.declared.Record.{Record}
-use Rattle.blocks.specs.Placing.{placed, heading_length}
-use Rattle.blocks.proofs.Digits.{length_bytes}
+use Rattle.blocks.specs.Placing.{Bytes, placed, fields_bytes, heading_length}
+use Rattle.blocks.specs.declared.row.Fields.{Fields}
+use Rattle.blocks.proofs.Digits.{length_bytes, byte_alone}
 use Rattle.blocks.proofs.Placed.{Entered, entered_more, Begun, begun_gap}
+
+-- four numbers that are a byte each
+four_alone : {a b c e : ℕ} → Bytes (a ∷ b ∷ c ∷ e ∷ []) → bytes 1 a ++ bytes 1 b ++ bytes 1 c ++ bytes 1 e ≡ a ∷ b ∷ c ∷ e ∷ []
+four_alone {a} {b} {c} {e} held = rw (byte_alone a (held 0), byte_alone b (held 1), byte_alone c (held 2), byte_alone e (held 3)) refl
 
 module _ (d : List ℕ) (at : ℕ) (h : at ≤ length d) where
   first_field : (k n : ℕ) (m : List ℕ) → m ≡ placed d at (bytes k n) → Entered d at k m (bytes k n)
@@ -23,57 +32,57 @@ module _ (d : List ℕ) (at : ℕ) (h : at ≤ length d) where
   next_field : {j : ℕ} {m fields : List ℕ} (p k n : ℕ) (next : List ℕ) → p ≡ at + j → next ≡ placed m p (bytes k n) → Entered d at j m fields → Entered d at (j + k) next (fields ++ bytes k n)
   next_field p k n next e q g = entered_more g h (bytes k n) next p k e (length_bytes k n) q
 
-  pub row_placed : (kind first second mark value p : ℕ) (v : ℤ) → p ≡ of_z w32 v → (m₁ m₂ m₃ m₄ m₅ m₆ : List ℕ)
-      → m₁ ≡ placed d at (bytes 1 kind)
-      → m₂ ≡ placed m₁ (at + 1) (bytes 1 first)
-      → m₃ ≡ placed m₂ (at + 2) (bytes 1 second)
-      → m₄ ≡ placed m₃ (at + 3) (bytes 1 mark)
-      → m₅ ≡ placed m₄ (at + 4) (bytes 4 p)
-      → m₆ ≡ placed m₅ (at + 8) (bytes 8 value)
-      → m₆ ≡ placed d at (row_fields kind first second mark v (bytes 8 value))
-  row_placed kind first second mark value p v e m₁ m₂ m₃ m₄ m₅ m₆ e₁ e₂ e₃ e₄ e₅ e₆ =
-      (next_field (at + 8) 8 value m₆ refl e₆
-      (next_field (at + 4) 4 (of_z w32 v) m₅ refl (e₅ ∙ ap (λ (q : ℕ). placed m₄ (at + 4) (bytes 4 q)) e)
-      (next_field (at + 3) 1 mark m₄ refl e₄
-      (next_field (at + 2) 1 second m₃ refl e₃ (next_field (at + 1) 1 first m₂ refl e₂ (first_field 1 kind m₁ e₁)))))).bytes
+  pub row_placed : (f : Fields) {p : ℕ} → p ≡ of_z w32 f.microvolts → {m₁ m₂ m₃ : List ℕ}
+      → Bytes (f.kind ∷ f.first ∷ f.second ∷ f.mark ∷ [])
+      → m₁ ≡ placed d at (f.kind ∷ f.first ∷ f.second ∷ f.mark ∷ [])
+      → m₂ ≡ placed m₁ (at + 4) (bytes 4 p)
+      → m₃ ≡ placed m₂ (at + 8) (float_bytes f.value)
+      → m₃ ≡ placed d at (fields_bytes f)
+  row_placed f e {m₁} {m₂} {m₃} held e₁ e₂ e₃ =
+      (next_field (at + 8) 8 (to_bits binary64 f.value) m₃ refl e₃
+      (next_field (at + 4) 4 (of_z w32 f.microvolts) m₂ refl (e₂ ∙ ap (λ (q : ℕ). placed m₁ (at + 4) (bytes 4 q)) e)
+      (record { bytes = e₁ ∙ ap (placed d at) (sym (four_alone held)); long = ap length (four_alone held) }))).bytes
 
-  pub column_placed : (c : Column) (x y : ℕ) (m n : List ℕ) → x ≡ of_z w32 c.x → y ≡ of_z w32 c.y
+  pub column_placed : (c : Column) {x y : ℕ} {m n : List ℕ} → x ≡ of_z w32 c.x → y ≡ of_z w32 c.y
       → m ≡ placed d at (bytes 4 x) → n ≡ placed m (at + 4) (bytes 4 y) → n ≡ placed d at (column_fields c)
-  column_placed c x y m n ex ey e f = (next_field (at + 4) 4 y n refl f (first_field 4 x m e)).bytes ∙ rw (ex, ey)
+  column_placed c {x} {y} {m} {n} ex ey e f = (next_field (at + 4) 4 y n refl f (first_field 4 x m e)).bytes ∙ rw (ex, ey)
 
 -- the heading's fields, with the zeros between them
-pub heading_placed : (r : Record) (kind bits : ℕ) (m₁ m₂ m₃ m₄ m₅ m₆ m₇ : List ℕ) → kind ≡ kind_number r.kind → bits ≡ to_bits binary64 r.resistance
+pub heading_placed : (r : Record) {kind : ℕ} → kind ≡ kind_number r.kind → {m₁ m₂ m₃ m₄ : List ℕ}
+    → Bytes (r.count ∷ r.tap ∷ kind ∷ r.width ∷ [])
     → m₁ ≡ placed (zeros block_length) 0 (bytes 2 r.version)
-    → m₂ ≡ placed m₁ 2 (bytes 1 r.count)
-    → m₃ ≡ placed m₂ 3 (bytes 1 r.tap)
-    → m₄ ≡ placed m₃ 4 (bytes 1 kind)
-    → m₅ ≡ placed m₄ 5 (bytes 1 r.width)
-    → m₆ ≡ placed m₅ 8 (bytes 4 r.rate)
-    → m₇ ≡ placed m₆ 16 (bytes 8 bits)
-    → Begun heading_length m₇ (heading r)
+    → m₂ ≡ placed m₁ 2 (r.count ∷ r.tap ∷ kind ∷ r.width ∷ [])
+    → m₃ ≡ placed m₂ 8 (bytes 4 r.rate)
+    → m₄ ≡ placed m₃ 16 (float_bytes r.resistance)
+    → Begun heading_length m₄ (heading r)
 unfolding heading
-heading_placed r kind bits m₁ m₂ m₃ m₄ m₅ m₆ m₇ ek eb e₁ e₂ e₃ e₄ e₅ e₆ e₇ =
-    next 16 8 (to_bits binary64 r.resistance) m₇ refl (e₇ ∙ ap (λ (q : ℕ). placed m₆ 16 (bytes 8 q)) eb)
-    (begun_gap
-    (next 8 4 r.rate m₆ refl e₆
-    (begun_gap
-    (next 5 1 r.width m₅ refl e₅
-    (next 4 1 (kind_number r.kind) m₄ refl (e₄ ∙ ap (λ (q : ℕ). placed m₃ 4 (bytes 1 q)) ek)
-    (next 3 1 r.tap m₃ refl e₃ (next 2 1 r.count m₂ refl e₂ (first_field (zeros block_length) 0 zero-le 2 r.version m₁ e₁)))))
-    2 (omega arith)))
-    4 (omega arith))
+heading_placed r {kind} e {m₁} {m₂} {m₃} {m₄} held e₁ e₂ e₃ e₄ =
+    next 16 8 (to_bits binary64 r.resistance) m₄ refl e₄ (begun_gap (next 8 4 r.rate m₃ refl e₃ (begun_gap small 2 (omega arith))) 4 (omega arith))
   where
     next : {j : ℕ} {m fields : List ℕ} (p k n : ℕ) (to : List ℕ) → p ≡ 0 + j → to ≡ placed m p (bytes k n) → Begun j m fields → Begun (j + k) to (fields ++ bytes k n)
     next = next_field (zeros block_length) 0 zero-le
 
--- ---- kinds
+    joined : bytes 2 r.version ++ (r.count ∷ r.tap ∷ kind ∷ r.width ∷ []) ≡ bytes 2 r.version ++ bytes 1 r.count ++ bytes 1 r.tap ++ bytes 1 kind ++ bytes 1 r.width
+    joined = rw (byte_alone r.count (held 0), byte_alone r.tap (held 1), byte_alone kind (held 2), byte_alone r.width (held 3)) (sym (simp append_assoc))
 
--- a number that is none of a curve's kinds is read as unset
-pub kind_unset : (n : ℕ) → (n ≡ 1 → ⊥) → (n ≡ 2 → ⊥) → kind_of n ≡ Unset
-kind_unset zero n₁ n₂ = refl
-kind_unset (suc zero) n₁ n₂ = absurd (n₁ refl)
-kind_unset (suc (suc zero)) n₁ n₂ = absurd (n₂ refl)
-kind_unset (suc (suc (suc k))) n₁ n₂ = refl
+    small : Begun 6 m₂ (bytes 2 r.version ++ bytes 1 r.count ++ bytes 1 r.tap ++ bytes 1 (kind_number r.kind) ++ bytes 1 r.width)
+    small = rw (← e) (rw joined at (entered_more (first_field (zeros block_length) 0 zero-le 2 r.version m₁ e₁) zero-le (r.count ∷ r.tap ∷ kind ∷ r.width ∷ []) m₂ 2 4 refl refl e₂))
+
+-- ---- parts
+
+-- a row's mark is its test as a byte
+mark_is : (b : Bool) → from_bool b ≡ one b
+mark_is true = refl
+mark_is false = refl
+
+pub row_said : (w : Row) (p : Part) {mark : ℕ} → w.part ≡ p → mark ≡ from_bool w.reversed → part_fields p mark ≡ row_bytes w
+unfolding row_bytes
+row_said w p {mark} e m = ap₂ part_fields (sym e) (m ∙ mark_is w.reversed)
+
+-- what is no leaf has a value of zeros
+pub zero_bytes : float_bytes (of_bits binary64 0) ≡ zeros 8
+unfolding to_bits of_bits bytes
+zero_bytes = refl
 
 -- a part of fields that are read
 pub part_same : (k a b k' a' b' : ℕ) (v v' : ℤ) (x x' : Float) → k ≡ k' → a ≡ a' → b ≡ b' → v ≡ v' → x ≡ x' → part_of k a b v x ≡ part_of k' a' b' v' x'

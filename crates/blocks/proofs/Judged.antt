@@ -1,69 +1,57 @@
 -- What is said of a file's bytes, rule by rule.
-use mathlib.Core.Path.{◌≡◌, ap, ◌∙◌}
+use mathlib.Core.Path.{◌≡◌, refl, ap}
 use Prim.Native.Nat.{ℕ, ◌/◌, ◌<◌}
-use native.Mathlib.Omega.{arith}
-use borrow.Author.Tests.{eqb-true, eq-eqb, ne_eqb, not-false}
-use mathlib.Core.Bool.{true, false, not}
+use borrow.Author.Tests.{eqb-true, eq-eqb, not-false}
+use mathlib.Core.Bool.{Bool, true, false, not}
 use mathlib.Core.List.{List, [], ◌∷◌}
 use lib.Dec.{lit<}
 use lib.ListN.{length}
 use Rattle.circuit.specs.Counting.{between}
-use Rattle.circuit.specs.Numbers.{report, done, Rule, rule, judge, unless, passes}
+use Rattle.circuit.specs.Numbers.{Report, report, done, Rule, rule, judge, unless, passes}
 use Rattle.circuit.specs.Record.{last_version, version_rule}
 use Rattle.circuit.specs.File.{file_length, block_length, check_place, number_at, check_of, file_length_rule, block_at, wrong_check, check_rule, clear_file, unused_bytes_rule, file_rules}
 use Rattle.laws.proofs.Counting.{unless_passes, lowest_passes, passes_lowest}
-use Rattle.laws.proofs.Judging.{Pass, Numbered, judge_pass, judge_fail, judge_at, judge_stop, pass_done, zero_pass}
-
--- the third rule; the first two rules, and the first three
-abbrev versioned : Rule (List ℕ)
-versioned = rule 3 (λ s. version_rule (number_at 2 0 s))
-
-abbrev checked_rules : List (Rule (List ℕ))
-checked_rules = rule 1 file_length_rule ∷ rule 2 check_rule ∷ []
-
-abbrev versioned_rules : List (Rule (List ℕ))
-versioned_rules = rule 1 file_length_rule ∷ rule 2 check_rule ∷ versioned ∷ []
+use Rattle.laws.specs.Numbered.{numbered}
+use Rattle.laws.proofs.Judging.{Numbered, pass_done, zero_pass}
+use Rattle.laws.proofs.Trying.{passed_first}
 
 pub file_numbered : Numbered file_rules
 unfolding file_rules
 file_numbered = (lit< tt, (lit< tt, (lit< tt, (lit< tt, tt))))
 
--- ---- the rules of the bytes
+-- ---- a rule that is one test
 
-module _ (s : List ℕ) where
-  pub length_stop : (length s ≡ file_length → ⊥) → judge file_rules s ≡ report 1 0
+pub test_passes : (n : ℕ) {b : Bool} → b ≡ true → done ≡ numbered n (unless b 0)
+test_passes n e = rw e refl
+
+pub test_fails : (n : ℕ) {b : Bool} → b ≡ false → report n 0 ≡ numbered n (unless b 0)
+test_fails n e = rw e refl
+
+-- ---- the rules that are left, past each that passes
+
+abbrev from_unused : List (Rule (List ℕ))
+from_unused = rule 4 unused_bytes_rule ∷ []
+
+abbrev from_version : List (Rule (List ℕ))
+from_version = rule 3 (λ s. version_rule (number_at 2 0 s)) ∷ from_unused
+
+abbrev from_checks : List (Rule (List ℕ))
+from_checks = rule 2 check_rule ∷ from_version
+
+module _ (s : List ℕ) (long : length s ≡ file_length) where
+  pub past_length : {m : Report} → m ≡ judge from_checks s → m ≡ judge file_rules s
   unfolding file_rules file_length_rule
-  length_stop e = judge_fail _ _ s 0 (ap (λ b. unless b 0) (ne_eqb _ _ e))
+  past_length later = passed_first 0 file_length_rule from_checks s (test_passes 1 (eq-eqb _ _ long)) later
 
-  module _ (long : length s ≡ file_length) where
-    long_passes : file_length_rule s ≡ passes
-    unfolding file_length_rule
-    long_passes = ap (λ b. unless b 0) (eq-eqb _ _ long)
+  module _ (right : done ≡ numbered 2 (check_rule s)) where
+    pub past_checks : {m : Report} → m ≡ judge from_version s → m ≡ judge file_rules s
+    past_checks later = past_length (passed_first 1 check_rule from_version s right later)
 
-    pub checks_stop : ((judge (rule 2 check_rule ∷ []) s).number ≡ 0 → ⊥) → judge file_rules s ≡ judge (rule 2 check_rule ∷ []) s
-    unfolding file_rules
-    checks_stop e = judge_pass _ _ s long_passes ∙ judge_stop (rule 2 check_rule ∷ []) (versioned ∷ rule 4 unused_bytes_rule ∷ []) s (omega arith)
+    pub past_version : {m : Report} → between 1 last_version (number_at 2 0 s) ≡ true → m ≡ judge from_unused s → m ≡ judge file_rules s
+    unfolding version_rule
+    past_version listed later = past_checks (passed_first 2 (λ s. version_rule (number_at 2 0 s)) from_unused s (test_passes 3 listed) later)
 
-    module _ (right : (judge (rule 2 check_rule ∷ []) s).number ≡ 0) where
-      checks_pass : Pass checked_rules s
-      checks_pass = (long_passes, zero_pass (rule 2 check_rule ∷ []) s (lit< tt, tt) right)
-
-      pub version_stop : between 1 last_version (number_at 2 0 s) ≡ false → judge file_rules s ≡ report 3 0
-      unfolding file_rules version_rule
-      version_stop e = judge_at checked_rules versioned (rule 4 unused_bytes_rule ∷ []) s 0 checks_pass (ap (λ b. unless b 0) e)
-
-      module _ (listed : between 1 last_version (number_at 2 0 s) ≡ true) where
-        version_pass : Pass versioned_rules s
-        unfolding version_rule
-        version_pass = (checks_pass.0, (checks_pass.1.0, (ap (λ b. unless b 0) listed, tt)))
-
-        pub unused_stop : clear_file s ≡ false → judge file_rules s ≡ report 4 0
-        unfolding file_rules unused_bytes_rule
-        unused_stop e = judge_at versioned_rules (rule 4 unused_bytes_rule) [] s 0 version_pass (ap (λ b. unless b 0) e)
-
-        pub file_done : clear_file s ≡ true → judge file_rules s ≡ done
-        unfolding file_rules unused_bytes_rule
-        file_done e = pass_done file_rules s (version_pass.0, (version_pass.1.0, (version_pass.1.1.0, (ap (λ b. unless b 0) e, tt))))
+-- ---- bytes that pass
 
 pub judged_length : (s : List ℕ) → (judge file_rules s).number ≡ 0 → length s ≡ file_length
 unfolding file_rules file_length_rule

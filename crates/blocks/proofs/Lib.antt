@@ -1,5 +1,5 @@
 pub mod Digits
-pub mod Patterns
+mod Chains
 pub mod Placed
 pub mod Blocks
 pub mod Sealed

@@ -1,13 +1,15 @@
 -- The laws of bytes placed in a list: after a front, one after another, and into a new block of zeros.
 use mathlib.Core.Path.{◌≡◌, refl, sym, ap, ◌∙◌}
 use Prim.Native.Nat.{ℕ, zero, suc, ◌+◌, ◌-◌, ◌≤◌}
-use native.Mathlib.Nat.{le_refl, sub-zero, zero-sub, suc-sub-suc}
+use native.Mathlib.Nat.{sub-zero, zero-sub, suc-sub-suc}
 use native.Mathlib.Omega.{arith}
 use mathlib.Core.List.{List, [], ◌∷◌, ◌++◌, append_assoc, append-nil}
-use lib.ListN.{length, take, drop, length-append, length-drop, length-replicate, replicate-append-replicate, drop_of_length-le}
-use lib.Seq.{take-take, take_all, drop-drop, take_at, drop_at, length-take-le, take-length, paste}
-use Rattle.circuit.specs.File.{block_length, zeros}
+use lib.ListN.{length, take, drop, length-append, length-replicate, replicate-append-replicate, drop_of_length-le}
+use lib.Seq.{take-take, drop-drop, take_at, drop_at, length-take-le}
+use Rattle.std.specs.Int.{bytes_low_first}
+use Rattle.circuit.specs.File.{block_length, bytes, zeros}
 use Rattle.blocks.specs.Placing.{placed, begun}
+use Rattle.blocks.proofs.Digits.{le_bytes}
 
 -- a part of a front is a part of the whole
 pub inner : {A : Type 0} (i w k : ℕ) (l : List A) → i + k ≤ w → take k (drop i (take w l)) ≡ take k (drop i l)
@@ -26,15 +28,9 @@ split_zeros a b n e = ap zeros (sym e) ∙ sym (replicate-append-replicate a b 0
 
 -- ---- placed
 
-pub paste_whole : (d v : List ℕ) (at k : ℕ) → length v ≡ k → paste d at v k ≡ placed d at v
-paste_whole d v at k e = rw (← e, take-length)
-
--- v copied over the front of what stands from `at` on
-pub placed_copy : (d v : List ℕ) (at : ℕ) {part : List ℕ} → part ≡ take (length v) v ++ drop (length v) (take (length d - at) (drop at d))
-    → take at d ++ (part ++ drop (length d - at) (drop at d)) ≡ placed d at v
-placed_copy d v at e =
-    let all : length (drop at d) ≤ length d - at = rw length-drop (le_refl _) in
-    rw (e, take-length, take_all (length d - at) (drop at d) all, drop_of_length-le (drop at d) all, append-nil, drop-drop, append_assoc)
+-- a number that the library turned into its bytes
+pub number_placed : (d : List ℕ) (at k n : ℕ) {m v : List ℕ} → m ≡ placed d at v → v ≡ bytes_low_first 0 k n → m ≡ placed d at (bytes k n)
+number_placed d at k n e f = e ∙ ap (placed d at) (f ∙ le_bytes k n)
 
 -- after a front
 placed_after : (a r v : List ℕ) (at : ℕ) → length a ≡ at → placed (a ++ r) at v ≡ a ++ v ++ drop (length v) r

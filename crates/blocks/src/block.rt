@@ -15,10 +15,9 @@ fn check_of(s: &[u8], k: u8) -> u32
     ensures { result ≡ check_of k s.now }
 {
     let mut sum: u64 = 0;
-    let mut i: usize = 0;
-    while i < WORDS {
-        sum += field::number(s, 4 * i, 4);
-        i += 1;
+    // As a chain with `sum` this needs two more laws and four answers.
+    for i in 0..WORDS {
+        sum += u64::from(field::word(s, 4 * i));
     }
     ((sum + k as u64 + 1) % 4294967296) as u32
 }
@@ -34,29 +33,12 @@ pub(crate) fn is_wrong(s: &[u8], k: u8) -> bool
     field::word(b, CHECK_PLACE) != check_of(b, k)
 }
 
-// The block with its check in its place.
-fn seal(b: [u8; BLOCK_LENGTH], k: u8) -> [u8; BLOCK_LENGTH]
-    ensures { result ≡ sealed k b }
-{
-    let mut r = b;
-    let check = check_of(&r, k);
-    field::put(&mut r, CHECK_PLACE, 4, check as u64);
-    r
-}
-
-// All of `b`, placed in `out` from `at` on.
-fn place(out: &mut [u8], at: usize, b: &[u8])
-    requires { at + length b.now ≤ length out.old }
-    ensures { out.new ≡ placed out.old at b.now }
-{
-    out[at..at + b.len()].copy_from_slice(b);
-}
-
 // Block `k` of a file, with its check.
-pub(crate) fn write(out: &mut [u8], k: u8, b: [u8; BLOCK_LENGTH])
+pub(crate) fn write(out: &mut [u8], k: u8, mut b: [u8; BLOCK_LENGTH])
     requires { block_length * k + block_length ≤ length out.old }
     ensures { out.new ≡ placed out.old (block_length * k) (sealed k b) }
 {
-    let r = seal(b, k);
-    place(out, BLOCK_LENGTH * k as usize, &r);
+    let check = check_of(&b, k);
+    field::put(&mut b, CHECK_PLACE, &check.to_le_bytes());
+    field::put(out, BLOCK_LENGTH * k as usize, &b);
 }

@@ -1,64 +1,35 @@
 // The block of columns, eight bytes each: x, then y.
-ghost use Rattle.std.specs.Prelude.{◌≡◌, map, ◌+◌, ◌≤◌, length};
-ghost use Rattle.circuit.specs.Counting.{table};
-ghost use Rattle.circuit.specs.Record.{column_limit};
-ghost use Rattle.circuit.specs.File.{file_length, column_length, column_from, column_place, column_fields, concat};
-ghost use Rattle.blocks.specs.Placing.{placed, begun};
+ghost use Rattle.circuit.specs.File.{column_length, column_from, column_place, column_fields};
+ghost use Rattle.blocks.specs.Lengths.{column_size};
 
 use crate::field;
-use circuit::{BLOCK_LENGTH, CHECK_PLACE, COLUMNS, Column};
+use crate::items::Item;
+use circuit::{BLOCK_LENGTH, Column};
 
-// How many bytes a column has; where column 0 begins in a file, and where the last one ends.
-const LENGTH: usize = 8;
+impl Item for Column {
+    const LENGTH: usize = 8;
 
-const START: usize = BLOCK_LENGTH * 2;
+    ghost LENGTH = { column_length };
 
-pub(crate) const END: usize = START + LENGTH * COLUMNS;
+    const START: usize = BLOCK_LENGTH * 2;
 
-// How many bytes are left between the last column and the check.
-pub(crate) const LEFT: usize = CHECK_PLACE - LENGTH * COLUMNS;
+    ghost START = { column_place 0 };
 
-fn column_from(s: &[u8], at: usize) -> Column
-    requires { at + column_length ≤ length s.now }
-    ensures { result ≡ column_from at s.now }
-{
-    let x = field::signed(s, at);
-    let y = field::signed(s, at + 4);
-    Column { x, y }
-}
+    ghost read_at = { column_from };
 
-pub(crate) fn columns(s: &[u8]) -> [Column; COLUMNS]
-    requires { length s.now ≡ file_length }
-    ensures { result ≡ table (λ i. column_from (column_place i) s.now) column_limit }
-{
-    let mut columns = [Column { x: 0, y: 0 }; COLUMNS];
-    let mut i: usize = 0;
-    while i < COLUMNS {
-        columns[i] = column_from(s, START + LENGTH * i);
-        i += 1;
+    ghost bytes_of = { column_fields };
+
+    fn read(s: &[u8], at: usize) -> Column {
+        Column {
+            x: field::signed(s, at),
+            y: field::signed(s, at + 4),
+        }
     }
-    columns
-}
 
-fn put_column(b: &mut [u8], at: usize, c: Column)
-    requires { at + column_length ≤ length b.old }
-    ensures { b.new ≡ placed b.old at (column_fields c) }
-{
-    let x = field::pattern(c.x);
-    let y = field::pattern(c.y);
-    field::put(b, at, 4, x as u64);
-    field::put(b, at + 4, 4, y as u64);
-}
-
-pub(crate) fn column_block(columns: [Column; COLUMNS]) -> [u8; BLOCK_LENGTH]
-    ensures { result ≡ begun (concat (map column_fields columns)) }
-{
-    let mut b = [0u8; BLOCK_LENGTH];
-    let mut i: usize = 0;
-    while i < COLUMNS {
-        let c = columns[i];
-        put_column(&mut b, LENGTH * i, c);
-        i += 1;
+    fn put(self, b: &mut [u8], at: usize) {
+        field::put(b, at, &self.x.to_le_bytes());
+        field::put(b, at + 4, &self.y.to_le_bytes());
     }
-    b
+
+    ghost long = { column_size };
 }

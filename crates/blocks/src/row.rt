@@ -1,93 +1,130 @@
 // The block of rows, sixteen bytes each: kind, first child, second child, reversed mark, steady microvolts, value. What a kind does not use is zero.
-ghost use Rattle.std.specs.Prelude.{◌≡◌, map, ◌+◌, ◌≤◌, length};
-ghost use Rattle.circuit.specs.Counting.{table};
-ghost use Rattle.circuit.specs.Record.{row_limit};
-ghost use Rattle.circuit.specs.File.{file_length, row_length, bytes, row_fields, leaf_fields, part_fields, join_number, row_from, row_place, row_bytes, concat};
-ghost use Rattle.blocks.specs.Placing.{placed, begun};
+ghost use Rattle.std.specs.Prelude.{◌≡◌, ◌+◌, ◌≤◌, pos, length};
+ghost use Rattle.circuit.specs.File.{row_length, part_of, join_number, row_from, row_place, row_bytes};
+ghost use Rattle.blocks.specs.Lengths.{row_size};
+ghost use Rattle.blocks.specs.Placing.{placed, fields_at, fields_bytes, row_of};
 
 use crate::field;
-use circuit::{BLOCK_LENGTH, CHECK_PLACE, Element, Join, Part, ROWS, ROWS_PER_BLOCK, Row};
-use sheet::{mark_of, part_of};
+use crate::items::Item;
+use circuit::{Adaptor, BLOCK_LENGTH, Element, Join, Part, Row};
 
-// How many bytes a row has; where row 0 begins in a file, and where the last one of its block ends.
-pub(crate) const LENGTH: usize = 16;
-
-pub(crate) const START: usize = BLOCK_LENGTH;
-
-pub(crate) const END: usize = START + LENGTH * ROWS_PER_BLOCK;
-
-// How many bytes are left between the last row and the check.
-pub(crate) const LEFT: usize = CHECK_PLACE - LENGTH * ROWS_PER_BLOCK;
-
-// A number past the list of kinds is read as blank, and refused elsewhere.
-fn row_from(s: &[u8], at: usize) -> Row
-    requires { at + row_length ≤ length s.now }
-    ensures { result ≡ row_from at s.now }
-{
-    let kind = field::byte(s, at);
-    let first = field::byte(s, at + 1);
-    let second = field::byte(s, at + 2);
-    let mark = field::byte(s, at + 3);
-    let microvolts = field::signed(s, at + 4);
-    let value = field::float(s, at + 8);
-    let part = part_of(kind, first, second, microvolts, value);
-    Row {
-        part,
-        reversed: mark == 1,
-    }
-}
-
-pub(crate) fn rows(s: &[u8]) -> [Row; ROWS]
-    requires { length s.now ≡ file_length }
-    ensures { result ≡ table (λ j. row_from (row_place j) s.now) row_limit }
-{
-    let mut rows = [Row {
-        part: Part::Blank,
-        reversed: false,
-    }; ROWS];
-    let mut j: usize = 0;
-    while j < ROWS {
-        rows[j] = row_from(s, START + LENGTH * j);
-        j += 1;
-    }
-    rows
-}
-
-fn put_fields(
-    b: &mut [u8],
-    at: usize,
+// What the bytes of a row say. What a kind does not use is zero.
+#[derive(Clone, Copy)]
+struct Fields {
+    // by its number
     kind: u8,
     first: u8,
     second: u8,
+    // 1 of a reversed row, and 0 of any other
     mark: u8,
+    // of a steady source
     microvolts: i32,
-    value: u64,
-)
-    requires { at + row_length ≤ length b.old }
-    ensures { b.new ≡ placed b.old at (row_fields kind first second mark microvolts (bytes 8 value)) }
-{
-    let pattern = field::pattern(microvolts);
-    field::put(b, at, 1, kind as u64);
-    field::put(b, at + 1, 1, first as u64);
-    field::put(b, at + 2, 1, second as u64);
-    field::put(b, at + 3, 1, mark as u64);
-    field::put(b, at + 4, 4, pattern as u64);
-    field::put(b, at + 8, 8, value);
+    // ohms, farads or henries
+    value: f64,
 }
 
-fn put_leaf(b: &mut [u8], at: usize, e: Element, mark: u8)
-    requires { at + row_length ≤ length b.old }
-    ensures { b.new ≡ placed b.old at (leaf_fields e mark) }
-{
-    match e {
-        Element::Resistor(r) => put_fields(b, at, 1, 0, 0, mark, 0, field::bits(r)),
-        Element::Capacitor(c) => put_fields(b, at, 2, 0, 0, mark, 0, field::bits(c)),
-        Element::Inductor(l) => put_fields(b, at, 3, 0, 0, mark, 0, field::bits(l)),
-        Element::Input(r) => put_fields(b, at, 4, 0, 0, mark, 0, field::bits(r)),
-        Element::Steady(r, v) => put_fields(b, at, 5, 0, 0, mark, v, field::bits(r)),
+impl Fields {
+    // Of a kind that has at most a value.
+    fn plain(kind: u8, mark: u8, value: f64) -> Fields
+        ensures { result ≡ record { kind = kind; first = 0; second = 0; mark = mark; microvolts = pos 0; value = value } }
+    {
+        Fields {
+            kind,
+            first: 0,
+            second: 0,
+            mark,
+            microvolts: 0,
+            value,
+        }
+    }
+
+    #[tactic(auto, using(crate::proofs::Digits::byte_at))]
+    fn read(s: &[u8], at: usize) -> Fields
+        requires { at + row_length ≤ length s.now }
+        ensures { result ≡ fields_at at s.now }
+    {
+        Fields {
+            kind: s[at],
+            first: s[at + 1],
+            second: s[at + 2],
+            mark: s[at + 3],
+            microvolts: field::signed(s, at + 4),
+            value: field::float(s, at + 8),
+        }
+    }
+
+    fn put(self, b: &mut [u8], at: usize)
+        requires { at + row_length ≤ length b.old }
+        ensures { b.new ≡ placed b.old at (fields_bytes self) }
+    {
+        field::put(b, at, &[self.kind, self.first, self.second, self.mark]);
+        field::put(b, at + 4, &self.microvolts.to_le_bytes());
+        field::put(b, at + 8, &field::float_bytes(self.value));
+    }
+
+    // A number past the list of kinds is read as blank, and refused elsewhere.
+    fn part(self) -> Part
+        ensures { result ≡ part_of self.kind self.first self.second self.microvolts self.value }
+    {
+        match self.kind {
+            1 => Part::Leaf(Element::Resistor(self.value)),
+            2 => Part::Leaf(Element::Capacitor(self.value)),
+            3 => Part::Leaf(Element::Inductor(self.value)),
+            4 => Part::Leaf(Element::Input(self.value)),
+            5 => Part::Leaf(Element::Steady(self.value, self.microvolts)),
+            6 => self.adaptor(Join::Series),
+            7 => self.adaptor(Join::Parallel),
+            _ => Part::Blank,
+        }
+    }
+
+    fn adaptor(self, join: Join) -> Part
+        ensures { result ≡ Part.Adaptor (record { join = join; first = self.first; second = self.second }) }
+    {
+        Part::Adaptor(Adaptor {
+            join,
+            first: self.first,
+            second: self.second,
+        })
     }
 }
 
+impl From<Fields> for Row {
+    ghost from_gives = { λ f w. w ≡ row_of f };
+
+    fn from(f: Fields) -> Row {
+        Row {
+            part: f.part(),
+            reversed: f.mark == 1,
+        }
+    }
+}
+
+impl From<Row> for Fields {
+    ghost from_gives = { λ w f. fields_bytes f ≡ row_bytes w };
+
+    fn from(row: Row) -> Fields {
+        let mark = u8::from(row.reversed);
+        match row.part {
+            Part::Blank => Fields::plain(0, mark, 0.0),
+            Part::Leaf(Element::Resistor(r)) => Fields::plain(1, mark, r),
+            Part::Leaf(Element::Capacitor(c)) => Fields::plain(2, mark, c),
+            Part::Leaf(Element::Inductor(l)) => Fields::plain(3, mark, l),
+            Part::Leaf(Element::Input(r)) => Fields::plain(4, mark, r),
+            Part::Leaf(Element::Steady(r, v)) => Fields {
+                microvolts: v,
+                ..Fields::plain(5, mark, r)
+            },
+            Part::Adaptor(a) => Fields {
+                first: a.first,
+                second: a.second,
+                ..Fields::plain(join_number(a.join), mark, 0.0)
+            },
+        }
+    }
+}
+
+// No `From`, as for the kinds of a curve.
 fn join_number(k: Join) -> u8
     ensures { result ≡ join_number k }
 {
@@ -97,31 +134,26 @@ fn join_number(k: Join) -> u8
     }
 }
 
-#[tactic(auto, unfolding(circuit::specs::File::bytes, circuit::specs::File::part_fields))]
-fn put_part(b: &mut [u8], at: usize, part: Part, mark: u8)
-    requires { at + row_length ≤ length b.old }
-    ensures { b.new ≡ placed b.old at (part_fields part mark) }
-{
-    match part {
-        Part::Blank => put_fields(b, at, 0, 0, 0, mark, 0, 0),
-        Part::Leaf(e) => put_leaf(b, at, e, mark),
-        Part::Adaptor(a) => {
-            let join = a.join;
-            put_fields(b, at, join_number(join), a.first, a.second, mark, 0, 0)
-        }
-    }
-}
+impl Item for Row {
+    const LENGTH: usize = 16;
 
-pub(crate) fn row_block(rows: [Row; ROWS]) -> [u8; BLOCK_LENGTH]
-    ensures { result ≡ begun (concat (map row_bytes rows)) }
-{
-    let mut b = [0u8; BLOCK_LENGTH];
-    let mut j: usize = 0;
-    while j < ROWS {
-        let row = rows[j];
-        let part = row.part;
-        put_part(&mut b, LENGTH * j, part, mark_of(row.reversed));
-        j += 1;
+    ghost LENGTH = { row_length };
+
+    const START: usize = BLOCK_LENGTH;
+
+    ghost START = { row_place 0 };
+
+    ghost read_at = { row_from };
+
+    ghost bytes_of = { row_bytes };
+
+    fn read(s: &[u8], at: usize) -> Row {
+        Row::from(Fields::read(s, at))
     }
-    b
+
+    fn put(self, b: &mut [u8], at: usize) {
+        Fields::from(self).put(b, at);
+    }
+
+    ghost long = { row_size };
 }

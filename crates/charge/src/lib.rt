@@ -1,112 +1,56 @@
-// A circuit with the waves that it starts from: rules 3 to 12, which every call that plays samples tries first, the ports that it plays with,
+// A circuit with the waves that it starts from: rules 3 to 12, which every call that plays samples tries first, the rows that it plays with,
 // and what it hands back where it is turned away.
 #![tactic(auto)]
 
-ghost use Rattle.std.specs.Prelude.{◌≡◌, not};
-ghost use Rattle.circuit.specs.Numbers.{handed, judge, lowest};
-ghost use Rattle.circuit.specs.Record.{row_limit};
-ghost use Rattle.circuit.specs.Sample.{stored_at};
-ghost use Rattle.circuit.specs.Run.{sound_wave, charged_rules, no_segment};
+ghost use Rattle.std.specs.Prelude.{◌≡◌, Err, None, OnOk};
+ghost use Rattle.circuit.specs.Numbers.{handed};
+ghost use Rattle.circuit.specs.Run.{sound_wave, stored_waves_rule};
 ghost use Rattle.circuit.specs.Promises.{Charges};
+ghost use Rattle.laws.specs.Accepted.{Sized};
 ghost use Rattle.laws.specs.Numbered.{numbered};
-ghost use Rattle.sheet.specs.Sheet.{rows_in, columns_in, part_in, record_in};
 
-use circuit::{
-    Answer, COLUMNS, NO_SEGMENT, Part, Ports, Progress, ROWS, Record, State, in_wave_limit, is_zero,
-};
-use sheet::{Cells, Coordinates, Heading, Microvolts, Values, part_in};
+use circuit::{Part, Prepared, Progress, ROWS, Record, Refusal, State, in_wave_limit};
 
 // A reactive row's wave is in its limit, and any other row's is 0.
 fn sound_wave(p: Part, w: i32) -> bool
     ensures { result ≡ sound_wave p w }
 {
     match p {
-        Part::Blank => is_zero(w),
-        Part::Leaf(e) => if e.is_reactive() {
-            in_wave_limit(w)
-        } else {
-            is_zero(w)
-        },
-        Part::Adaptor(_) => is_zero(w),
+        Part::Leaf(e) if e.is_reactive() => in_wave_limit(w),
+        _ => w == 0,
     }
 }
 
-// The lowest row at fault; blank rows are looked at too.
-#[tactic(auto, unfolding(circuit::specs::Numbers::handed))]
-fn stored_waves(cells: &Cells, microvolts: &Microvolts, values: &Values, state: State) -> Answer
-    ensures { handed result ≡ numbered 12 (lowest (λ j. not (sound_wave
-        (part_in cells.now microvolts.now values.now j) (stored_at state.waves j))) row_limit) }
+// The lowest row at fault; blank rows are looked at too. A goal about a lent record does not see its arrays' lengths: a caller learns them here.
+// `find` is the search that the rules share: what is left is what a fault is and what it is called.
+fn stored_waves(r: &Record, state: &State) -> Result<(), Refusal>
+    ensures told { handed result ≡ numbered 12 (stored_waves_rule r.now state.now.waves) }
+    ensures sized { Sized r.now }
 {
-    let waves = state.waves;
-    for j in 0..ROWS {
-        let part = part_in(cells[j], microvolts[j], values[j]);
-        if !sound_wave(part, waves[j]) {
-            return Answer::Waves(j as u8);
-        }
-    }
-    Answer::Done
-}
-
-// The rules over any lists at all, of the record that they stand for. The ports are set-up's, where 12 refuses too.
-pub fn check(
-    h: Heading,
-    cells: &Cells,
-    microvolts: &Microvolts,
-    values: &Values,
-    xs: &Coordinates,
-    ys: &Coordinates,
-    state: State,
-) -> Ports
-    ensures { Charges (record {
-      circuit = record_in h (rows_in cells.now microvolts.now values.now)
-          (columns_in xs.now ys.now);
-      waves = state.waves;
-    }) result }
-{
-    let ports = setup::find_ports(h, cells, microvolts, values, xs, ys);
-    let answer = ports.answer;
-    if answer.number() != 0 {
-        return ports;
-    }
-    let answer = stored_waves(cells, microvolts, values, state);
-    let resistances = ports.resistances;
-    let ratios = ports.ratios;
-    Ports {
-        answer,
-        resistances,
-        ratios,
+    match (0..ROWS).find(|j| !sound_wave(r.row(*j).part, state.waves[*j])) {
+        Some(j) => Err(Refusal::Waves(j as u8)),
+        None => Ok(()),
     }
 }
 
-// The rules over any record at all.
-pub fn answer(r: Record, state: State) -> Answer
-    ensures { handed result ≡ judge charged_rules (record { circuit = r; waves = state.waves }) }
+// The rules over any record at all, and the rows that set-up prepares where none applies.
+pub fn check(r: &Record, state: &State) -> Result<[Prepared; ROWS], Refusal>
+    ensures charges { Charges (record { circuit = r.now; waves = state.now.waves }) result }
+    ensures sized { OnOk result (Sized r.now) }
 {
-    let mut cells = [[0; 4]; ROWS];
-    let mut microvolts = [0; ROWS];
-    let mut values = [0.0; ROWS];
-    let mut xs = [0; COLUMNS];
-    let mut ys = [0; COLUMNS];
-    let h = sheet::lay(
-        r,
-        &mut cells,
-        &mut microvolts,
-        &mut values,
-        &mut xs,
-        &mut ys,
-    );
-    let ports = check(h, &cells, &microvolts, &values, &xs, &ys, state);
-    ports.answer
+    let rows = setup::set_up(r)?;
+    stored_waves(r, state)?;
+    Ok(rows)
 }
 
 // What a call hands back that is refused before its first sample.
-pub fn turned_away(answer: Answer, state: State) -> Progress
-    ensures { result ≡ record { answer = answer; done = 0; segment = no_segment; state = state } }
+pub fn turned_away(refusal: Refusal, state: State) -> Progress
+    ensures { result ≡ record { answer = Err refusal; done = 0; segment = None; state = state } }
 {
     Progress {
-        answer,
+        answer: Err(refusal),
         done: 0,
-        segment: NO_SEGMENT,
+        segment: None,
         state,
     }
 }

@@ -12,13 +12,10 @@ use Rattle.circuit.specs.Omega.{omega_parts, entry_at}
 use Rattle.circuit.specs.declared.Column.{Column}
 use Rattle.circuit.specs.declared.CurveKind.{CurveKind}
 use Rattle.circuit.specs.declared.CurveKind.TheVariants.{Unset, Pair}
+use Rattle.circuit.specs.declared.Knob.{Knob}
 use Rattle.circuit.specs.declared.Record.{Record}
 
 -- the knob: the knee a and the thermal voltage V, both in microvolts
-pub record Knob : Type 0 where
-  pub knee : ℤ
-  pub thermal : ℤ
-
 abbrev pub knob : ℤ → ℤ → Knob
 knob a v = record { knee = a; thermal = v }
 

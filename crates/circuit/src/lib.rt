@@ -1,16 +1,19 @@
-// The words of a circuit: the record that describes one, what set-up makes of it, the waves that a run carries, and the answers
-// that the unit hands back. What they mean is in specs/, a file to a heading of the paper.
+// The words of a circuit: the record that describes one, what set-up makes of it, the waves that a run carries, the refusals, and what the
+// unit hands back. What they mean is in specs/, a file to a heading of the paper.
 #![tactic(auto)]
 
-ghost use Rattle.std.specs.Prelude.{◌%◌, ◌^◌, ◌≡◌, cond, [], ◌∷◌, eqb, nat_abs};
+ghost use Rattle.std.specs.Prelude.{◌%◌, ◌^◌, ◌≡◌, cond, [], ◌∷◌, eqb, length};
 ghost use Rattle.circuit.specs.Counting.{between, within};
-ghost use Rattle.circuit.specs.Numbers.{handed};
-ghost use Rattle.circuit.specs.Record.{last_version, source_limit, is_leaf, is_input};
+ghost use Rattle.circuit.specs.Numbers.{told};
+ghost use Rattle.circuit.specs.Record.{last_version, source_limit, row_limit, column_limit, row_at, column_at, is_leaf, is_input};
 ghost use Rattle.circuit.specs.SetUp.{nothing};
 ghost use Rattle.circuit.specs.Curve.{wave_limit};
 ghost use Rattle.circuit.specs.Run.{is_reactive};
 ghost use Rattle.circuit.specs.File.{number_of};
 ghost use Rattle.circuit.specs.Take.{signed};
+
+use std::error::Error;
+use std::fmt;
 
 // Room for this many rows and columns.
 pub const ROWS: usize = 31;
@@ -36,14 +39,11 @@ pub const WAVE_LIMIT: i32 = 67108864;
 // A ratio counts parts of this many.
 pub const PARTS: u32 = 16777216;
 
-// A tap at the top, where the diode is.
+// A tap at the top, where the diode is. A tap is a number, as in the file: any record may come in, and be written as it is.
 pub const TOP: u8 = 255;
 
-// The place of a fault that lies at no row.
+// The place of a fault that lies at no row: a number, as every place of the table is.
 pub const NO_ROW: u8 = 255;
-
-// The segment that is told where no sample was finished.
-pub const NO_SEGMENT: u8 = 255;
 
 // Bytes of a circuit file and of each of its blocks, where a block's check stands, and how many rows a block of rows has.
 pub const FILE_LENGTH: usize = 1536;
@@ -79,25 +79,7 @@ impl Element {
     pub fn is_reactive(self) -> bool
         ensures { result ≡ is_reactive self }
     {
-        match self {
-            Element::Resistor(_) => false,
-            Element::Capacitor(_) => true,
-            Element::Inductor(_) => true,
-            Element::Input(_) => false,
-            Element::Steady(_, _) => false,
-        }
-    }
-
-    fn is_source(self) -> bool
-        ensures { result ≡ is_input (Part.Leaf self) }
-    {
-        match self {
-            Element::Resistor(_) => false,
-            Element::Capacitor(_) => false,
-            Element::Inductor(_) => false,
-            Element::Input(_) => true,
-            Element::Steady(_, _) => false,
-        }
+        matches!(self, Element::Capacitor(_) | Element::Inductor(_))
     }
 }
 
@@ -126,21 +108,13 @@ impl Part {
     pub fn is_leaf(self) -> bool
         ensures { result ≡ is_leaf self }
     {
-        match self {
-            Part::Blank => false,
-            Part::Leaf(_) => true,
-            Part::Adaptor(_) => false,
-        }
+        matches!(self, Part::Leaf(_))
     }
 
     pub fn is_input(self) -> bool
         ensures { result ≡ is_input self }
     {
-        match self {
-            Part::Blank => false,
-            Part::Leaf(e) => e.is_source(),
-            Part::Adaptor(_) => false,
-        }
+        matches!(self, Part::Leaf(Element::Input(_)))
     }
 }
 
@@ -152,14 +126,15 @@ pub struct Row {
 }
 
 // A point of the diode's curve, in microvolts: the wave that reaches the diode, and the wave that it sends back.
-#[derive(Clone, Copy)]
+#[derive(Clone, Copy, PartialEq, Eq)]
 pub struct Column {
     pub x: i32,
     pub y: i32,
 }
 
-#[derive(Clone, Copy)]
+#[derive(Clone, Copy, PartialEq, Eq)]
 pub enum CurveKind {
+    // no option round the other two: a record of any kind may come in, and rule 4 refuses this one
     Unset,
     Single,
     Pair,
@@ -167,21 +142,49 @@ pub enum CurveKind {
 
 #[derive(Clone, Copy)]
 pub struct Record {
-    // of its file, and how its waves are rounded
+    // of its file, and how its waves are rounded: any number may come in, and rule 3 refuses the others
     pub version: u16,
     // whole hertz
     pub rate: u32,
-    // how many rows are in use
+    // how many rows are in use: 31 stand in every file, nothing is allocated, and rule 4 looks at those past the count too
     pub count: u8,
     // a leaf row, or TOP
     pub tap: u8,
     pub rows: [Row; ROWS],
     pub kind: CurveKind,
-    // how many columns are in use
+    // how many columns are in use, as of the rows
     pub width: u8,
     pub columns: [Column; COLUMNS],
     // the port resistance, in ohms, that the curve was made for
     pub resistance: f64,
+}
+
+// A function for rows and one for columns: generic over both, it would be handed the array and what stands past its end. Each tells the lengths
+// of both arrays, which a goal about a lent record does not see.
+impl Record {
+    // Row j; past the last row there are blank ones.
+    pub fn row(&self, j: usize) -> Row
+        ensures value { result ≡ row_at self.now j }
+        ensures rows { length self.now.rows ≡ row_limit }
+        ensures columns { length self.now.columns ≡ column_limit }
+    {
+        self.rows.get(j).copied().unwrap_or(Row {
+            part: Part::Blank,
+            reversed: false,
+        })
+    }
+
+    // Column i; past the last column they are at (0, 0).
+    pub fn column(&self, i: usize) -> Column
+        ensures value { result ≡ column_at self.now i }
+        ensures rows { length self.now.rows ≡ row_limit }
+        ensures columns { length self.now.columns ≡ column_limit }
+    {
+        self.columns
+            .get(i)
+            .copied()
+            .unwrap_or(Column { x: 0, y: 0 })
+    }
 }
 
 // A row after set-up: its port resistance in ohms, and an adaptor's ratio in parts of 2^24.
@@ -192,7 +195,7 @@ pub struct Prepared {
 }
 
 impl Prepared {
-    // What a blank row prepares to, and every row of a refused record.
+    // What a blank row prepares to.
     pub fn blank() -> Prepared
         ensures { result ≡ nothing }
     {
@@ -204,7 +207,7 @@ impl Prepared {
 }
 
 // The stored waves in microvolts, one for each row: 0 where the row is not reactive.
-#[derive(Clone, Copy)]
+#[derive(Clone, Copy, PartialEq, Eq)]
 pub struct State {
     pub waves: [i32; ROWS],
 }
@@ -219,7 +222,7 @@ impl Wave {
         ensures { result ≡ within wave_limit self.0 }
     {
         let limit = WAVE_LIMIT as i64;
-        (-limit <= self.0) & (self.0 <= limit)
+        (-limit..=limit).contains(&self.0)
     }
 }
 
@@ -227,11 +230,23 @@ impl Wave {
 #[derive(Clone, Copy)]
 pub struct Doubled(pub i32);
 
-// What is handed back, a case for each number. A case holds its place: a block, a row (255 for the input, the tap, or what a take carries
+// What a take carries from call to call.
+#[derive(Clone, Copy, PartialEq, Eq)]
+pub struct Carried {
+    pub state: State,
+    // the bytes of a sample that is not whole yet, and how many they are: any count may come in, and rule 12 refuses it above 2
+    pub left: [u8; LEFT_LIMIT],
+    pub count: u8,
+    // whole samples done since the start of the take
+    pub done: u64,
+    // 15 once a sample is refused, and 0 before: any number may come in, and rule 12 refuses the others
+    pub held: u8,
+}
+
+// Why a call is refused, a case for each number. A case holds its place: a block, a row (255 for the input, the tap, or what a take carries
 // beside its waves), a column, the index of a sample, or how many samples are done.
-#[derive(Clone, Copy)]
-pub enum Answer {
-    Done,
+#[derive(Clone, Copy, Debug, PartialEq, Eq)]
+pub enum Refusal {
     Length,
     Check(u8),
     Version,
@@ -252,144 +267,108 @@ pub enum Answer {
     Voltage,
 }
 
-impl Answer {
-    // From 0, done, to 18.
-    #[tactic(auto, unfolding(crate::specs::Numbers::handed))]
+impl Refusal {
+    // From 1 to 18. No conversion of the refusal: it has two numbers, this one and its place.
+    #[tactic(auto, unfolding(crate::specs::Numbers::told))]
     pub fn number(self) -> u64
-        ensures { result ≡ (handed self).number }
+        ensures { result ≡ (told self).number }
     {
         match self {
-            Answer::Done => 0,
-            Answer::Length => 1,
-            Answer::Check(_) => 2,
-            Answer::Version => 3,
-            Answer::Form => 4,
-            Answer::Rate => 5,
-            Answer::Tree(_) => 6,
-            Answer::Value(_) => 7,
-            Answer::Resistance(_) => 8,
-            Answer::Ratio(_) => 9,
-            Answer::Curve(_) => 10,
-            Answer::Fit => 11,
-            Answer::Waves(_) => 12,
-            Answer::Lengths => 13,
-            Answer::Sample(_) => 14,
-            Answer::Overload(_) => 15,
-            Answer::Room => 16,
-            Answer::LeftOver(_) => 17,
-            Answer::Voltage => 18,
+            Refusal::Length => 1,
+            Refusal::Check(_) => 2,
+            Refusal::Version => 3,
+            Refusal::Form => 4,
+            Refusal::Rate => 5,
+            Refusal::Tree(_) => 6,
+            Refusal::Value(_) => 7,
+            Refusal::Resistance(_) => 8,
+            Refusal::Ratio(_) => 9,
+            Refusal::Curve(_) => 10,
+            Refusal::Fit => 11,
+            Refusal::Waves(_) => 12,
+            Refusal::Lengths => 13,
+            Refusal::Sample(_) => 14,
+            Refusal::Overload(_) => 15,
+            Refusal::Room => 16,
+            Refusal::LeftOver(_) => 17,
+            Refusal::Voltage => 18,
         }
     }
 
     // 0 where a number has no place.
-    #[tactic(auto, unfolding(crate::specs::Numbers::handed))]
+    #[tactic(auto, unfolding(crate::specs::Numbers::told))]
     pub fn place(self) -> u64
-        ensures { result ≡ (handed self).place }
+        ensures { result ≡ (told self).place }
     {
         match self {
-            Answer::Done => 0,
-            Answer::Length => 0,
-            Answer::Check(block) => block as u64,
-            Answer::Version => 0,
-            Answer::Form => 0,
-            Answer::Rate => 0,
-            Answer::Tree(row) => row as u64,
-            Answer::Value(row) => row as u64,
-            Answer::Resistance(row) => row as u64,
-            Answer::Ratio(row) => row as u64,
-            Answer::Curve(column) => column as u64,
-            Answer::Fit => 0,
-            Answer::Waves(row) => row as u64,
-            Answer::Lengths => 0,
-            Answer::Sample(index) => index as u64,
-            Answer::Overload(index) => index as u64,
-            Answer::Room => 0,
-            Answer::LeftOver(samples) => samples as u64,
-            Answer::Voltage => 0,
+            Refusal::Check(block) => block as u64,
+            Refusal::Tree(row)
+            | Refusal::Value(row)
+            | Refusal::Resistance(row)
+            | Refusal::Ratio(row)
+            | Refusal::Waves(row) => row as u64,
+            Refusal::Curve(column) => column as u64,
+            Refusal::Sample(index) | Refusal::Overload(index) => index as u64,
+            Refusal::LeftOver(samples) => samples as u64,
+            _ => 0,
         }
     }
+}
 
-    // This answer, and where it is done the next.
-    pub fn or(self, next: Answer) -> Answer
-        ensures { result ≡ cond (eqb (handed self).number 0) next self }
-    {
-        if self.number() == 0 { next } else { self }
+impl fmt::Display for Refusal {
+    fn fmt<W: fmt::Write>(&self, f: &mut fmt::Formatter<W>) -> fmt::Result {
+        write!(f, "refused {} at {}", self.number(), self.place())
     }
 }
 
-// What set-up hands back; on refusal the rows are zeros.
-#[derive(Clone, Copy)]
-pub struct SetUp {
-    pub answer: Answer,
-    pub rows: [Prepared; ROWS],
-}
+impl Error for Refusal {}
 
-// The same as lists: the rows' port resistances in ohms, and their ratios in parts of 2^24.
-#[derive(Clone, Copy)]
-pub struct Ports {
-    pub answer: Answer,
-    pub resistances: [f64; ROWS],
-    pub ratios: [u32; ROWS],
-}
-
-// What reading hands back; on refusal the record is the one of zeros.
-#[derive(Clone, Copy)]
-pub struct Reading {
-    pub answer: Answer,
-    pub record: Record,
-}
-
-// What opening a file hands back: a reading, with the rows that set-up prepared; on refusal they are zeros too.
+// What opening a file hands back: its record, with the rows that set-up prepared.
 #[derive(Clone, Copy)]
 pub struct Opened {
-    pub answer: Answer,
-    pub record: Record,
+    pub circuit: Record,
     pub rows: [Prepared; ROWS],
 }
 
-// What listing a file hands back: what reading it answers, and how many bytes the text has.
+// What listing a file hands back: what reading it answers, and how many bytes the text has. A refusal has a text too, so both are told.
 #[derive(Clone, Copy)]
 pub struct Listed {
-    pub answer: Answer,
+    pub answer: Result<(), Refusal>,
     pub length: usize,
 }
 
-// What a run hands back: how many samples are done, the segment that the diode used in the last of them, and the waves after them.
+// What a run hands back: how many samples are done, the segment that the diode used in the last of them, and the waves after them. All three
+// are told beside a refusal, since samples may be done before it.
 #[derive(Clone, Copy)]
 pub struct Progress {
-    pub answer: Answer,
+    pub answer: Result<(), Refusal>,
     pub done: usize,
-    pub segment: u8,
+    pub segment: Option<u8>,
     pub state: State,
 }
 
-// What a take carries from call to call.
-#[derive(Clone, Copy)]
-pub struct Carried {
-    pub state: State,
-    // the bytes of a sample that is not whole yet, and how many they are
-    pub left: [u8; LEFT_LIMIT],
-    pub count: u8,
-    // whole samples done since the start of the take
-    pub done: u64,
-    // 15 once a sample is refused, and 0 before
-    pub held: u8,
-}
-
-// What a call of a take hands back: how many samples it did, the segment of the last of them, and what it carries on.
+// What a call of a take hands back: how many samples it did, the segment of the last of them, and what it carries on. As of `Progress`; the
+// promise of a run names the waves, and that of a take what is carried.
 #[derive(Clone, Copy)]
 pub struct Feed {
-    pub answer: Answer,
+    pub answer: Result<(), Refusal>,
     pub done: usize,
-    pub segment: u8,
+    pub segment: Option<u8>,
     pub carried: Carried,
 }
 
-// What building a curve hands back: a curve as a record has it. On refusal no kind, no columns, and zeros.
+// The knob that a curve is built from, in microvolts.
+#[derive(Clone, Copy)]
+pub struct Knob {
+    pub knee: i32,
+    pub thermal: i32,
+}
+
+// A curve as a record has it.
 #[derive(Clone, Copy)]
 pub struct Built {
-    pub answer: Answer,
     pub kind: CurveKind,
+    // how many columns are in use
     pub width: u8,
     pub columns: [Column; COLUMNS],
 }
@@ -397,33 +376,27 @@ pub struct Built {
 pub fn is_version(version: u16) -> bool
     ensures { result ≡ between 1 last_version version }
 {
-    (1 <= version) & (version <= LAST_VERSION)
+    (ROUNDED_DOWN..=LAST_VERSION).contains(&version)
 }
 
-// Whether microvolts keep the limit of a steady source and of a sample.
+// Whether microvolts keep the limit of a steady source and of a sample. Not one function with the limit of a wave: a limit belongs to its rule,
+// and the wrong program that moves one is of that rule alone.
 pub fn in_source_limit(microvolts: i32) -> bool
     ensures { result ≡ within source_limit microvolts }
 {
-    (-SOURCE_LIMIT <= microvolts) & (microvolts <= SOURCE_LIMIT)
+    (-SOURCE_LIMIT..=SOURCE_LIMIT).contains(&microvolts)
 }
 
 // Whether microvolts keep the limit of a wave.
 pub fn in_wave_limit(microvolts: i32) -> bool
     ensures { result ≡ within wave_limit microvolts }
 {
-    (-WAVE_LIMIT <= microvolts) & (microvolts <= WAVE_LIMIT)
-}
-
-pub fn is_zero(microvolts: i32) -> bool
-    ensures { result ≡ eqb (nat_abs microvolts) 0 }
-{
-    microvolts == 0
+    (-WAVE_LIMIT..=WAVE_LIMIT).contains(&microvolts)
 }
 
 // The sample in three bytes, the lowest first. From 2^23 on the number stands for one below zero: moved up by 2^23, it wraps at 2^24.
 pub fn sample_of(a: u8, b: u8, c: u8) -> i32
     ensures { result ≡ signed (number_of (a ∷ b ∷ c ∷ []) % 2 ^ 24) }
 {
-    let n = a as u32 + 256 * (b as u32) + 65536 * (c as u32);
-    ((n + 8388608) % 16777216) as i32 - 8388608
+    i32::from_le_bytes([0, a, b, c]) >> 8
 }

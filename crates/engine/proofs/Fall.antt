@@ -16,14 +16,15 @@ use Rattle.circuit.specs.SetUp.{ratio_at}
 use Rattle.circuit.specs.Curve.{wave_limit}
 use Rattle.circuit.specs.Sample.{rounding_of, rounded, reach, holds, stored_at}
 use Rattle.circuit.specs.declared.Join.{Join}
-use Rattle.circuit.specs.declared.Adaptor.{Adaptor as Joint}
+use Rattle.circuit.specs.declared.Adaptor.{Adaptor as Joined}
 use Rattle.circuit.specs.declared.Part.{Part}
 use Rattle.circuit.specs.declared.Part.TheVariants.{Blank, Leaf, Adaptor}
 use Rattle.circuit.specs.declared.Record.{Record}
 use Rattle.laws.specs.Accepted.{adaptor_limit}
 use Rattle.laws.proofs.Trees as Trees
 use Rattle.engine.specs.Wave.{down_limit, way, Beneath}
-use Rattle.engine.specs.Plan.{floor, slot_of, top_slot, Joints}
+use Rattle.engine.specs.declared.plan.Plan.{Plan}
+use Rattle.engine.specs.Plan.{floor, slot_of, top_slot}
 use Rattle.engine.specs.Sweep.{rises, Risen, Swept, Modest, Drops, Reached}
 use Rattle.engine.proofs.Range.{sends_to, down_range}
 use Rattle.engine.proofs.Turn.{child_of, child_there, child_under, parent_is, same_row, adaptor_slot, Turn}
@@ -48,11 +49,11 @@ modest_set {ds} m i {v} h = record {
 -- ---- the adaptors that have sent
 
 -- what the adaptor at row p sends to a side, with a3 from above
-abbrev falls : Record → (ℕ → ℤ) → ℕ → Joint → ℤ → Bool → ℤ
+abbrev falls : Record → (ℕ → ℤ) → ℕ → Joined → ℤ → Bool → ℤ
 falls r w p a a3 side = sends_to (rounding_of r.version) side a.join (ratio_at r p) (rises r w a.first) (rises r w a.second) a3
 
 -- its children hold that, and no more than can come past it and all adaptors with higher slots
-pub record Sent (r : Record) (w : ℕ → ℤ) (p : ℕ) (a : Joint) (ds : List ℤ) : Type 0 where
+pub record Sent (r : Record) (w : ℕ → ℤ) (p : ℕ) (a : Joined) (ds : List ℤ) : Type 0 where
   pub waves : (side : Bool) → stored_at ds (slot_of r (child_of a side)) ≡ falls r w p a (stored_at ds (slot_of r p)) side
   pub small : (side : Bool) → Abs (stored_at ds (slot_of r (child_of a side))) (down_limit (suc (top_slot r - slot_of r p)))
 
@@ -61,10 +62,10 @@ pub record Falling (r : Record) (w : ℕ → ℤ) (top : ℤ) (m : ℕ) (ds : Li
   pub modest : Modest ds
   pub above : stored_at ds (top_slot r) ≡ top
   pub quiet : Abs top wave_limit
-  pub sent : (p : ℕ) (a : Joint) → p < r.count → part_at r p ≡ Adaptor a → m < slot_of r p → Sent r w p a ds
+  pub sent : (p : ℕ) (a : Joined) → p < r.count → part_at r p ≡ Adaptor a → m < slot_of r p → Sent r w p a ds
 
-pub falling_begun : {inward : Bool} {js : Joints} {n : ℕ} {ups ds : List ℤ} (d : Drops inward js n ups ds)
-    → Falling d.swept.circuit d.swept.wave (stored_at ds (top_slot d.swept.circuit)) (floor + n) ds
+pub falling_begun : {plan : Plan} {ups ds : List ℤ} (d : Drops plan ups ds)
+    → Falling d.swept.circuit d.swept.wave (stored_at ds (top_slot d.swept.circuit)) (floor + plan.adaptors) ds
 falling_begun d = record {
   modest = d.modest;
   above = refl;
@@ -74,14 +75,14 @@ falling_begun d = record {
 
 -- ---- the turn of the sweep down
 
-module _ {inward : Bool} {js : Joints} {n : ℕ} (s : Swept inward js n) where
+module _ {plan : Plan} (s : Swept plan) where
   open s use {circuit as r, wave as w, accepted, slotted, all, rounds}
 
   module _ {own : ℕ} {j : Join} {slots : Bool → ℕ} {g : ℤ} (t : Turn r own j slots g) {top : ℤ} {ds : List ℤ} (falling : Falling r w top own ds) where
-    open t use {row, joint, inside, part, place, join, child, ratio}
+    open t use {row, adaptor, inside, part, place, join, child, ratio}
 
     -- its own wave came from the top, or from the adaptor above, in row p
-    from_above : (p : ℕ) (a : Joint) (side : Bool) → p < r.count → part_at r p ≡ Adaptor a → row ≡ child_of a side → own < slot_of r p
+    from_above : (p : ℕ) (a : Joined) (side : Bool) → p < r.count → part_at r p ≡ Adaptor a → row ≡ child_of a side → own < slot_of r p
         → Abs (stored_at ds own) (down_limit (top_slot r - own))
     from_above p a side l e c higher =
         abs_as ((falling.sent p a l e higher).small side) (ap (stored_at ds) (ap (slot_of r) (sym c) ∙ place))
@@ -97,12 +98,12 @@ module _ {inward : Bool} {js : Joints} {n : ℕ} (s : Swept inward js n) where
     ]
 
     -- `heard` are its children's waves, `a3` its own
-    module _ {ups : List ℤ} (risen : Risen r w (suc floor + n) ups)
+    module _ {ups : List ℤ} (risen : Risen r w (suc floor + plan.adaptors) ups)
         {heard : Bool → ℤ} (hears : (side : Bool) → heard side ≡ stored_at ups (slots side)) {a3 : ℤ} (comes : a3 ≡ stored_at ds own) where
-      enough : own ≤ suc floor + n
+      enough : own ≤ suc floor + plan.adaptors
       enough = omega (arith, own_slot s t, all)
 
-      pub beneath : {u : ℤ} → u ≡ stored_at ups own → Beneath inward j g (heard true) (heard false) u a3
+      pub beneath : {u : ℤ} → u ≡ stored_at ups own → Beneath (way plan.inward) j g (heard true) (heard false) u a3
       beneath e = record {
         below = below s t enough risen hears;
         sent = e ∙ ap (stored_at ups) (sym place) ∙ risen.right row inside (omega (arith, place, enough, own_slot s t, all))
@@ -111,20 +112,20 @@ module _ {inward : Bool} {js : Joints} {n : ℕ} (s : Swept inward js n) where
       }
 
       -- `v` is what is sent to each side
-      module _ (v : Bool → ℤ) (e : (side : Bool) → v side ≡ sends_to (way inward) side j (nat_abs g) (heard true) (heard false) a3) where
+      module _ (v : Bool → ℤ) (e : (side : Bool) → v side ≡ sends_to (way plan.inward) side j (nat_abs g) (heard true) (heard false) a3) where
         after : List ℤ
         after = set (set ds (slots true) (v true)) (slots false) (v false)
 
-        sent_range : (side : Bool) → Abs (falls r w row joint (stored_at ds own) side) (down_limit (suc (top_slot r - own)))
+        sent_range : (side : Bool) → Abs (falls r w row adaptor (stored_at ds own) side) (down_limit (suc (top_slot r - own)))
         sent_range side =
             subst
-            (λ ρ. Abs (sends_to ρ side joint.join (ratio_at r row) (rises r w joint.first) (rises r w joint.second) (stored_at ds own))
+            (λ ρ. Abs (sends_to ρ side adaptor.join (ratio_at r row) (rises r w adaptor.first) (rises r w adaptor.second) (stored_at ds own))
             (down_limit (suc (top_slot r - own))))
             (sym rounds)
-            (abs_as (down_range inward (ratio_at r row) (accepted.ratio row) (rises_range s t _) (rises_range s t _) own_range side joint.join) refl
+            (abs_as (down_range (plan.inward, refl) (ratio_at r row) (accepted.ratio row) (rises_range s t _) (rises_range s t _) own_range side adaptor.join) refl
             (omega (arith, both_few s t)))
 
-        sent_right : (side : Bool) → v side ≡ falls r w row joint (stored_at ds own) side
+        sent_right : (side : Bool) → v side ≡ falls r w row adaptor (stored_at ds own) side
         sent_right side =
             let waves = wave_right s t enough risen hears in
             e side ∙ ap (λ ρ. sends_to ρ side j (nat_abs g) (heard true) (heard false) a3) (sym rounds) ∙ rw (waves true, waves false, comes, join, ratio)
@@ -133,7 +134,7 @@ module _ {inward : Bool} {js : Joints} {n : ℕ} (s : Swept inward js n) where
         room side = omega (arith, slot_inside s t side, falling.modest.long)
 
         -- the children have what is sent, and every other slot what it had
-        at_child : (side : Bool) → stored_at after (slots side) ≡ falls r w row joint (stored_at ds own) side
+        at_child : (side : Bool) → stored_at after (slots side) ≡ falls r w row adaptor (stored_at ds own) side
         unfolding after
         at_child true = let apart = slots_apart s t in let inside = room true in rw (get_or-set_other, get_or-set_same) (sent_right true)
         at_child false = let inside = lt-length-set ds (slots true) (v true) (room false) in rw get_or-set_same (sent_right false)
@@ -145,14 +146,14 @@ module _ {inward : Bool} {js : Joints} {n : ℕ} (s : Swept inward js n) where
         higher : (x : ℕ) → own ≤ x → stored_at after x ≡ stored_at ds x
         higher x l = elsewhere x (λ side q. omega (arith, child_slot s t side))
 
-        here : Sent r w row joint after
+        here : Sent r w row adaptor after
         here = record {
           waves = λ side. rw (← child side, place, higher own (omega arith)) (at_child side);
           small = λ side. rw (← child side, place, at_child side) (sent_range side);
         }
 
         -- a child of another adaptor is none of this one's
-        others : (p : ℕ) (a : Joint) → p < r.count → part_at r p ≡ Adaptor a → own < slot_of r p → Sent r w p a after
+        others : (p : ℕ) (a : Joined) → p < r.count → part_at r p ≡ Adaptor a → own < slot_of r p → Sent r w p a after
         others p a l q h =
             let old = falling.sent p a l q h in
             let kept : (side : Bool) → stored_at after (slot_of r (child_of a side)) ≡ stored_at ds (slot_of r (child_of a side)) =
@@ -177,9 +178,9 @@ module _ {inward : Bool} {js : Joints} {n : ℕ} (s : Swept inward js n) where
               sent = λ p a l q h. elim (ℕ_discrete (slot_of r p) own) [
                 | yes mine ↦
                     let same : p ≡ row = same_row slotted p row l inside (mine ∙ sym place) in
-                    let parts : Adaptor a ≡ Adaptor joint = sym q ∙ ap (part_at r) same ∙ part in
-                    let joints : a ≡ joint = cc in
-                    rw (same, joints) here
+                    let parts : Adaptor a ≡ Adaptor adaptor = sym q ∙ ap (part_at r) same ∙ part in
+                    let same_adaptor : a ≡ adaptor = cc in
+                    rw (same, same_adaptor) here
                 | no f ↦ others p a l q (omega arith)
               ];
             }
@@ -190,7 +191,7 @@ goes_on : (b : Bool) (f : ℕ → Bool) (x y : ℕ) → f x ≡ b → T (f x || 
 goes_on true f x y e h = subst T (sym e) tt
 goes_on false f x y e h = rw e at h
 
-module _ {inward : Bool} {js : Joints} {n : ℕ} (s : Swept inward js n) {top : ℤ} {m : ℕ} {ds : List ℤ} (low : m ≤ floor) (falling : Falling s.circuit s.wave top m ds)
+module _ {plan : Plan} (s : Swept plan) {top : ℤ} {m : ℕ} {ds : List ℤ} (low : m ≤ floor) (falling : Falling s.circuit s.wave top m ds)
     (j : ℕ) where
   open s use {circuit as r, wave as w, accepted, slotted}
 
@@ -207,7 +208,7 @@ module _ {inward : Bool} {js : Joints} {n : ℕ} (s : Swept inward js n) {top : 
       sym (ap (λ x. stored_at ds (slot_of r x)) (eqb→eq i j (subst (λ x. T (holds x j)) t held)))
       ∙ sym (Trees.reach_leaf r accepted.lower i t (rounded r) (ratio_at r) w (stored_at ds (slot_of r i)) j)
 
-  by_side : (i : ℕ) (a : Joint) (a3 : ℤ) (side : Bool)
+  by_side : (i : ℕ) (a : Joined) (a3 : ℤ) (side : Bool)
       → cond side (reaches a.first (falls r w i a a3 true)) (reaches a.second (falls r w i a a3 false))
       ≡ reaches (child_of a side) (falls r w i a a3 side)
   by_side i a a3 true = refl
@@ -230,7 +231,7 @@ module _ {inward : Bool} {js : Joints} {n : ℕ} (s : Swept inward js n) {top : 
   all_down zero i h l = absurd (omega arith)
   all_down (suc d) i h l = one_down i l (λ c m. all_down d c (omega arith) (omega arith)) (part_at r i) refl
 
-pub reached : {inward : Bool} {js : Joints} {n : ℕ} (s : Swept inward js n) {m : ℕ} → m ≤ floor → {before ds : List ℤ}
+pub reached : {plan : Plan} (s : Swept plan) {m : ℕ} → m ≤ floor → {before ds : List ℤ}
     → Falling s.circuit s.wave (stored_at before (top_slot s.circuit)) m ds → Reached s.circuit s.wave before ds
 unfolding tree_of last_row
 reached s low {ds = ds} falling =

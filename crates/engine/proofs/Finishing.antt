@@ -9,6 +9,7 @@ use mathlib.Core.Logic.{inl, inr}
 use mathlib.Core.List.{List}
 use lib.IntN.{ℤ, pos, ◌+ℤ◌}
 use lib.Ieee.Bits.{is_true}
+use Rattle.std.specs.Prelude.{Result, Ok, Err}
 use borrow.Author.Tests.{eq-eqb, ne_eqb, not-true, not-false}
 use Rattle.circuit.specs.Counting.{within, some, table}
 use Rattle.circuit.specs.Record.{part_at, reversed_at, is_leaf, is_input, top, row_limit}
@@ -22,10 +23,12 @@ use Rattle.laws.specs.Accepted.{Accepted}
 use Rattle.laws.proofs.Counting as Counting
 use Rattle.laws.proofs.Playing.{stored_sound}
 use Rattle.parts.specs.Parts.{role_of, facing_of, turn_of}
-use Rattle.engine.specs.Plan.{floor, slot_of, reactives, Slotted, Plan}
+use Rattle.engine.specs.Plan.{floor, slot_of, reactives, Slotted}
 use Rattle.engine.specs.Sample.{over_at, leaf_over, Turn, turned_by, Restored, Restores, Port, Settles, Settled, Loaded, Works}
-use Rattle.engine.specs.declared.sample.Outcome.{Outcome}
-use Rattle.engine.specs.declared.sample.Outcome.TheVariants.{Loud, Over, Finished}
+use Rattle.engine.specs.declared.plan.Plan.{Plan}
+use Rattle.engine.specs.declared.sample.Finished.{Finished}
+use Rattle.engine.specs.declared.sample.Fault.{Fault}
+use Rattle.engine.specs.declared.sample.Fault.TheVariants.{Loud, Over}
 use Rattle.engine.proofs.Facing.{facing_turn, facing_turned, turned_within, turned_back, turned_opposite, turned_sum}
 use Rattle.engine.proofs.Limits.{within_abs}
 use Rattle.engine.proofs.Sampling.{leaf_of, LeafSlot, leaf_inside, leaf_slot, slot_low, slot_leaf, slot_turn, Landed}
@@ -54,13 +57,13 @@ meter_turn false reversed = facing_turn reversed
 
 module _ {p : Plan} {r : Record} {ws : List ℤ} {x : ℤ} {above below : List ℤ} (h : Landed p r ws x above below) where
   abbrev acc : Accepted r
-  acc = h.fixed.accepted
+  acc = h.fixed.seated.accepted
 
   abbrev at : Slotted r
-  at = h.fixed.slotted
+  at = h.fixed.seated.slotted
 
   abbrev n : ℕ
-  n = p.shape.adaptors
+  n = p.adaptors
 
   abbrev ρ : Rounding
   ρ = rounding_of r.version
@@ -112,8 +115,8 @@ module _ {p : Plan} {r : Record} {ws : List ℤ} {x : ℤ} {above below : List �
 
     -- ---- what the tap reads
 
-    tapped : Port above below p.shape.tap
-        × (turned_by p.shape.meter (stored_at above p.shape.tap +ℤ stored_at below p.shape.tap) ≡ output (rounded r) (reflected r) r (stored_at ws) x)
+    tapped : Port above below p.tap
+        × (turned_by p.meter (stored_at above p.tap +ℤ stored_at below p.tap) ≡ output (rounded r) (reflected r) r (stored_at ws) x)
     unfolding output arriving raised
     tapped = elim acc.tapped [
       | inl q ↦ rw (h.fixed.tap, h.fixed.meter, eq-eqb r.tap top q, at.last) (
@@ -138,7 +141,7 @@ module _ {p : Plan} {r : Record} {ws : List ℤ} {x : ℤ} {above below : List �
 
     -- ---- what is stored
 
-    restores : Restores p.turns p.shape.reactive above below
+    restores : Restores p.turns p.reactive above below
     restores =
         let fewer = at.fewer in
         let q = h.fixed.reactive in
@@ -149,7 +152,7 @@ module _ {p : Plan} {r : Record} {ws : List ℤ} {x : ℤ} {above below : List �
           wave = λ s l. within_abs wave_limit _ (none_over n below calm s (inl (omega (arith, h.fixed.adaptors))));
         }
 
-    module _ {after : List ℤ} (k : Restored p.turns below p.shape.reactive above after) (j : ℕ) (l : j < r.count) where
+    module _ {after : List ℤ} (k : Restored p.turns below p.reactive above after) (j : ℕ) (l : j < r.count) where
       next_at : stored_at next j ≡ part_stores (rounded r) (part_at r j) (arrives_at j)
       unfolding kept
       next_at = let short = acc.short in Counting.get_or-table (kept (rounded r) (reflected r) r (stored_at ws) x) row_limit j (pos 0) (omega arith)
@@ -173,7 +176,7 @@ module _ {p : Plan} {r : Record} {ws : List ℤ} {x : ℤ} {above below : List �
       sends_next (Input v) e f = absurd (true≢false f)
       sends_next (Steady v m) e f = stays (at.other j l (ap role_of e)).0 (ap is_leaf e) ∙ rw e
 
-    loaded_next : {after : List ℤ} → Restored p.turns below p.shape.reactive above after → Loaded r next after
+    loaded_next : {after : List ℤ} → Restored p.turns below p.reactive above after → Loaded r next after
     unfolding raised sent
     loaded_next k = record {
       size = Counting.length_table (kept (rounded r) (reflected r) r (stored_at ws) x) row_limit;
@@ -186,7 +189,7 @@ module _ {p : Plan} {r : Record} {ws : List ℤ} {x : ℤ} {above below : List �
 
   -- ---- the end
 
-  pub settles : Settles p.shape p.turns above below
+  pub settles : Settles p above below
   settles = record {
     few = omega (arith, h.fixed.adaptors, at.few);
     meter = rw h.fixed.meter (meter_turn (eqb r.tap top) (reversed_at r r.tap));
@@ -196,11 +199,11 @@ module _ {p : Plan} {r : Record} {ws : List ℤ} {x : ℤ} {above below : List �
   }
 
   -- what it comes to is the definition's sample
-  pub works : {told : ℕ} → told ≡ used → (o : Outcome) (after : List ℤ) → Settled p.shape p.turns told above below o after → Works r ws x o after
+  pub works : {told : ℕ} → told ≡ used → (o : Result Finished Fault) (after : List ℤ) → Settled p told above below o after → Works r ws x o after
   unfolding Works Settled
-  works e Loud after s = absurd s
-  works e Over after s = (refuses_leaf s.0, rw s.1 h.still)
-  works e (Finished v n) after s = (
+  works e (Err Loud) after s = absurd s
+  works e (Err Over) after s = (refuses_leaf s.0, rw s.1 h.still)
+  works e (Ok f) after s = (
     next s.0,
     finishes s.0 ∙ ap₂ (λ z m. finished z m (next s.0)) (sym (s.1 ∙ (tapped s.0).1)) (sym (s.2 ∙ e)),
     loaded_next s.0 s.3,

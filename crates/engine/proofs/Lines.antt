@@ -6,29 +6,29 @@ use mathlib.Core.Path.{◌≡◌, refl, sym, ap, ◌∙◌}
 use mathlib.Core.Logic.{⊎_elim}
 use mathlib.Core.List.{List, [], ◌∷◌}
 use borrow.Author.Count.{below_none}
-use lib.ListN.{length, get_or, set, length-set}
+use lib.ListN.{length, set, length-set}
 use lib.Seq.{get_or-set_same, get_or-set_other}
 use lib.IntN.{ℤ, pos, ◌+ℤ◌, ◌-ℤ◌, ◌*ℤ◌}
 use lib.Signed.{◌≤ℤ◌, ◌<ℤ◌, quot_z}
 use mir.Syntax.{w32, w64}
+use mir.Facts.{to_z-of_z}
 use mir.Val.{Fits, SFits, to_z, of_z}
 use Rattle.whole.specs.Integers.{at, ◌⊟◌}
 use Rattle.whole.specs.Order.{zarith, Abs, abs_add, abs_neg, abs_mul}
 use Rattle.whole.specs.Ring.{var, ◌⊕◌, ◌⊗◌, ◌⊝◌, ring}
-use Rattle.whole.specs.Signed.{zfits, to_z-u32, trunc_fits, wide, wide_same}
+use Rattle.whole.specs.Signed.{zfits, to_z-u32, trunc_fits}
 use Rattle.whole.specs.Fraction.{whole}
 use Rattle.circuit.specs.Record.{column_limit, column_at}
 use Rattle.circuit.specs.Curve.{wave_limit, through, slope_at, passed, piece, toward_zero}
 use Rattle.circuit.specs.declared.Column.{Column}
 use Rattle.circuit.specs.declared.Record.{Record}
-use Rattle.laws.specs.Accepted.{origin, Drawn}
-use Rattle.laws.proofs.Counting.{get_or-table}
-use Rattle.laws.proofs.Line as Line
-use Rattle.laws.proofs.Line.{through_answer, run_is}
+use Rattle.laws.specs.Accepted.{Drawn}
+use Rattle.laws.proofs.Line.{slope_to as between, through_answer, run_is}
 use Rattle.laws.proofs.Drawn.{passed_is, column_y_small}
-use Rattle.sheet.specs.Sheet.{columns_in}
-use Rattle.engine.specs.Curve.{edge_of, line_by, Sloped, line_limit, beyond, column_in, slope_to, slope_in, line_in, last_line, Plotted, Laid, Drawing}
+use Rattle.engine.specs.Curve.{line_by, Sloped, line_limit, beyond, column_in, slope_to, slope_in, line_in, last_line, no_line, line_at, Plotted, Laid, Drawing}
 use Rattle.engine.specs.declared.curve.Slope.{Slope}
+use Rattle.engine.specs.declared.curve.Line.{Line}
+use Rattle.engine.specs.declared.curve.Curve.{Curve}
 use Rattle.engine.proofs.Fill.{filled_more}
 use Rattle.engine.proofs.Limits.{abs_fits, difference_range}
 
@@ -56,6 +56,12 @@ module _ {c : Column} {slope : Slope} (s : Sloped c slope) where
   line_bound : {a : ℤ} → Abs a wave_limit → Abs (rise *ℤ a +ℤ base) (3 * 2 ^ 53)
   line_bound h = abs_add (climb_bound h) base_bound
 
+  pub rise_reads : to_z w64 (of_z w64 rise) ≡ rise
+  rise_reads = to_z-of_z (abs_fits s.rise_small (omega arith))
+
+  pub run_reads : to_z w64 (of_z w64 run) ≡ run
+  run_reads = to_z-of_z (abs_fits s.run_small (omega arith))
+
   pub height : SFits w64 (c.y *ℤ run)
   height = abs_fits height_bound (omega arith)
 
@@ -72,25 +78,25 @@ module _ {c : Column} {slope : Slope} (s : Sloped c slope) where
   line_fits h = abs_fits (line_bound h) (omega arith)
 
 -- the steps to a line's value v at a wave
-pub record Steps (l : List ℤ) (a v : ℤ) : Type 0 where
+pub record Steps (l : Line) (a v : ℤ) : Type 0 where
   pub wave : SFits w64 a
-  pub rise : SFits w64 (get_or l 1 (pos 0))
-  pub base : SFits w64 (get_or l 2 (pos 0))
+  pub rise : SFits w64 l.rise
+  pub base : SFits w64 l.base
   pub span : ℕ
   pub short : Fits w32 span
-  pub span_reads : to_z w64 (of_z w64 (get_or l 3 (pos 0))) ≡ pos span
+  pub span_reads : to_z w64 (of_z w64 l.span) ≡ pos span
   pub run : SFits w64 (pos (span + 1))
-  pub product : SFits w64 (get_or l 1 (pos 0) *ℤ a)
-  pub sum : SFits w64 (get_or l 1 (pos 0) *ℤ a +ℤ get_or l 2 (pos 0))
-  pub quotient : SFits w64 (quot_z (get_or l 1 (pos 0) *ℤ a +ℤ get_or l 2 (pos 0)) (pos (span + 1)))
-  pub value : quot_z (get_or l 1 (pos 0) *ℤ a +ℤ get_or l 2 (pos 0)) (pos (span + 1)) ≡ v
+  pub product : SFits w64 (l.rise *ℤ a)
+  pub sum : SFits w64 (l.rise *ℤ a +ℤ l.base)
+  pub quotient : SFits w64 (quot_z (l.rise *ℤ a +ℤ l.base) (pos (span + 1)))
+  pub value : quot_z (l.rise *ℤ a +ℤ l.base) (pos (span + 1)) ≡ v
 
 -- through a column with the slope from one column to another
 steps : (c o n : Column) (edge : ℤ) {a : ℤ} → o.x <ℤ n.x → Sloped c (slope_to o n) → Abs a wave_limit
-    → Steps (line_by c (slope_to o n) edge) a (toward_zero (through c (Line.slope_to o n) (whole a)))
+    → Steps (line_by c (slope_to o n) edge) a (toward_zero (through c (between o n) (whole a)))
 steps c o n edge {a} rises h w =
     let slope = slope_to o n in
-    let k = max 1 (Line.slope_to o n).run in
+    let k = max 1 (between o n).run in
     let distance = run_is o n rises in
     let same : k - 1 + 1 ≡ k = omega arith in
     let last : slope.run -ℤ pos 1 ≡ pos (k - 1) = rw (← distance) (omega (zarith, at (pos k) ⊟ at (pos 1))) in
@@ -111,19 +117,18 @@ steps c o n edge {a} rises h w =
           (ap (λ (z : ℤ). quot_z z (pos k))
           (ring (c.x ∷ c.y ∷ slope.rise ∷ slope.run ∷ a ∷ []) (C ⊗ A ⊕ (y ⊗ K ⊝ C ⊗ x)) (y ⊗ K ⊕ C ⊗ (A ⊝ x)) refl
           ∙ ap (λ (z : ℤ). c.y *ℤ z +ℤ slope.rise *ℤ (a -ℤ c.x)) (sym distance))
-          ∙ sym (through_answer c (Line.slope_to o n) a));
+          ∙ sym (through_answer c (between o n) a));
     }
 
 -- ---- the columns that the lines go through
 
-pub plotted : {r : Record} {columns : List Column} {width : ℕ}
-    → r.columns ≡ columns → r.width ≡ width → Drawn r → width ≤ column_limit → Plotted columns width
-plotted e f d narrow = record {
-  two = rw (← f) d.two;
+pub plotted : {r : Record} → Drawn r → r.width ≤ column_limit → Plotted r.columns r.width
+plotted d narrow = record {
+  two = d.two;
   narrow = narrow;
-  across = λ i l. rw (← e) (record { bound = d.small i (rw f l) });
-  back = λ i l. rw (← e) (record { bound = column_y_small d i (rw f l) });
-  rises = λ i l. rw (← e) (d.beside i (rw f l)).rises;
+  across = λ i l. record { bound = d.small i l };
+  back = λ i l. record { bound = column_y_small d i l };
+  rises = λ i l. (d.beside i l).rises;
 }
 
 module _ {columns : List Column} {width : ℕ} (p : Plotted columns width) where
@@ -131,68 +136,66 @@ module _ {columns : List Column} {width : ℕ} (p : Plotted columns width) where
   column = column_in columns
 
   -- through column i with the slope from column k to the next
-  pub sloped : {s : Slope} (i k : ℕ) → s ≡ slope_in columns k → i < width → suc k < width → Sloped (column i) s
-  sloped i k e l m =
+  sloped : (i k : ℕ) → i < width → suc k < width → Sloped (column i) (slope_in columns k)
+  sloped i k l m =
       let here : k < width = omega arith in
-      rw e record {
+      record {
         across = p.across i l;
         back = p.back i l;
         rise_small = difference_range (p.back (suc k) m) (p.back k here);
         run_small = difference_range (p.across (suc k) m) (p.across k here);
       }
 
--- an edge is read where its column stands
-pub edge_reads : (xs ys : List ℤ) (i : ℕ) → i < column_limit → SFits w32 (get_or xs i (pos 0)) → wide (get_or xs i (pos 0)) ≡ (column_in (columns_in xs ys) i).x
-unfolding columns_in
-edge_reads xs ys i l h = wide_same h ∙ sym (ap (λ (c : Column). c.x) (get_or-table _ column_limit i origin l))
-
 -- ---- lines laid one by one
 
 -- the last is laid first
-pub laid_last : {columns : List Column} {width : ℕ} → Plotted columns width → (lines : List (List ℤ)) {l : List ℤ}
+pub laid_last : {columns : List Column} {width : ℕ} → Plotted columns width → (lines : List Line) {l : Line}
     → length lines ≡ line_limit → l ≡ last_line columns width → Laid columns width 0 (set lines width l)
 laid_last {width = width} p lines {l} long e = record {
   long = length-set lines width l ∙ long;
   line = below_none _;
-  last = get_or-set_same lines width l [] (omega (arith, p.narrow)) ∙ e;
+  last = get_or-set_same lines width l no_line (omega (arith, p.narrow)) ∙ e;
 }
 
-pub laid_more : {columns : List Column} {width i : ℕ} {lines : List (List ℤ)} {l : List ℤ}
+pub laid_more : {columns : List Column} {width i : ℕ} {lines : List Line} {l : Line}
     → Laid columns width i lines → i < width → i < line_limit → l ≡ line_in columns i → Laid columns width (i + 1) (set lines i l)
 laid_more {columns} {width} {i} {lines} {l} d inside few e = record {
   long = length-set lines i l ∙ d.long;
-  line = filled_more (λ n m. m ≡ line_in columns n) [] lines i l (rw d.long few) d.line e;
-  last = get_or-set_other lines i width l [] (λ same. omega arith) ∙ d.last;
+  line = filled_more (λ n m. m ≡ line_in columns n) no_line lines i l (rw d.long few) d.line e;
+  last = get_or-set_other lines i width l no_line (λ same. omega arith) ∙ d.last;
 }
 
 -- ---- the edges behind a wave
 
 -- the edge before n, where there is one, is not above it
-pub record Behind (lines : List (List ℤ)) (a : ℤ) (n : ℕ) : Type 0 where
-  pub edge : (k : ℕ) → n ≡ suc k → edge_of (get_or lines k []) ≤ℤ a
+pub record Behind (lines : List Line) (a : ℤ) (n : ℕ) : Type 0 where
+  pub edge : (k : ℕ) → n ≡ suc k → (line_at lines k).edge ≤ℤ a
 
-pub behind_none : {lines : List (List ℤ)} {a : ℤ} → Behind lines a 0
+pub behind_none : {lines : List Line} {a : ℤ} → Behind lines a 0
 behind_none = record { edge = λ k e. absurd (let none : ⊥ = omega arith in none) }
 
-pub behind_next : {lines : List (List ℤ)} {a : ℤ} {n : ℕ} (k : ℕ) → k + 1 ≡ n → edge_of (get_or lines k []) ≤ℤ a → Behind lines a n
+pub behind_next : {lines : List Line} {a : ℤ} {n : ℕ} (k : ℕ) → k + 1 ≡ n → (line_at lines k).edge ≤ℤ a → Behind lines a n
 behind_next k e h = record { edge = λ m f. let same : m ≡ k = omega arith in rw same h }
 
 -- ---- the definition's pieces
 
-module _ {r : Record} {width : ℕ} {lines : List (List ℤ)} (d : Drawing r width lines) {a : ℤ} (w : Abs a wave_limit) where
+module _ {r : Record} {c : Curve} (d : Drawing r c) {a : ℤ} (w : Abs a wave_limit) where
   abbrev columns : List Column
   columns = r.columns
 
+  abbrev lines : List Line
+  lines = c.lines.now
+
   columns_plotted : Plotted columns r.width
-  columns_plotted = plotted refl refl d.drawn d.narrow
+  columns_plotted = plotted d.drawn d.narrow
 
   abbrev Piece : ℕ → Type 0
-  Piece n = Steps (get_or lines n []) a (toward_zero (piece r n (whole a)))
+  Piece n = Steps (line_at lines n) a (toward_zero (piece r n (whole a)))
 
   -- through column i with the slope from column k to the next
   along : (i k : ℕ) (edge : ℤ) → i < r.width → suc k < r.width
       → Steps (line_by (column_in columns i) (slope_in columns k) edge) a (toward_zero (through (column_at r i) (slope_at r k) (whole a)))
-  along i k edge l m = let p = columns_plotted in steps (column_at r i) (column_at r k) (column_at r (suc k)) edge (p.rises k m) (sloped p i k refl l m) w
+  along i k edge l m = let p = columns_plotted in steps (column_at r i) (column_at r k) (column_at r (suc k)) edge (p.rises k m) (sloped p i k l m) w
 
   inside : (n : ℕ) → n < r.width → Piece n
   unfolding piece
@@ -205,7 +208,7 @@ module _ {r : Record} {width : ℕ} {lines : List (List ℤ)} (d : Drawing r wid
   unfolding piece
   past zero e = absurd (omega (arith, d.drawn.two))
   past (suc n) e =
-      let line = ap (λ (k : ℕ). get_or lines k []) e ∙ d.laid.last in
+      let line = ap (line_at lines) e ∙ d.laid.last in
       let last : r.width - 1 ≡ n = omega arith in
       let outer : min n (r.width - 2) ≡ r.width - 2 = omega arith in
       rw (line, last, outer) (along n (r.width - 2) beyond (omega arith) (omega (arith, d.drawn.two)))
@@ -215,15 +218,15 @@ module _ {r : Record} {width : ℕ} {lines : List (List ℤ)} (d : Drawing r wid
 
   -- ---- the columns passed
 
-  edge_is : (n : ℕ) → n < r.width → edge_of (get_or lines n []) ≡ (column_in columns n).x
-  edge_is zero l = ap edge_of (d.laid.line 0 l)
-  edge_is (suc n) l = ap edge_of (d.laid.line (suc n) l)
+  edge_is : (n : ℕ) → n < r.width → (line_at lines n).edge ≡ (column_in columns n).x
+  edge_is zero l = ap (λ (m : Line). m.edge) (d.laid.line 0 l)
+  edge_is (suc n) l = ap (λ (m : Line). m.edge) (d.laid.line (suc n) l)
 
   -- no wave passes the edge after the last column
-  pub none_past : a <ℤ edge_of (get_or lines width [])
+  pub none_past : a <ℤ (line_at lines c.width).edge
   none_past = rw (d.many, d.laid.last) (omega zarith)
 
   -- the edge before n is passed, and edge n is not
-  pub passed_count : (n : ℕ) → n ≤ r.width → Behind lines a n → a <ℤ edge_of (get_or lines n []) → n ≡ passed r (whole a)
+  pub passed_count : (n : ℕ) → n ≤ r.width → Behind lines a n → a <ℤ (line_at lines n).edge → n ≡ passed r (whole a)
   passed_count n most left right =
       sym (passed_is d.drawn a n most (λ k e. rw (← edge_is k (omega arith)) (left.edge k e)) (λ l. rw (← edge_is n l) right))

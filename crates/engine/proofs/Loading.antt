@@ -1,4 +1,4 @@
--- The ends of a run: what is laid out and loaded before its first sample, and the stored waves that are taken out after its last.
+-- The ends of a run: the waves that are loaded before its first sample, and the stored waves that are taken out after its last.
 use Prim.Native.Nat.{ℕ, zero, suc, ◌<◌, ◌≤◌}
 use native.Mathlib.Decide.{dec_lt}
 use native.Mathlib.Omega.{arith}
@@ -6,70 +6,33 @@ use mathlib.Core.Path.{◌≡◌, refl, sym, ap, ap₂, ◌∙◌}
 use mathlib.Core.Bool.{Bool, true, false}
 use mathlib.Core.List.{List}
 use lib.Dec.{eqb}
-use lib.ListN.{length, get_or, replicate, get_or-map}
+use lib.ListN.{length, get_or, replicate}
 use lib.Seq.{ext_get_or}
 use lib.IntN.{ℤ, pos, nat_abs}
 use borrow.Author.Tests.{eqb-true, not-false}
 use Rattle.whole.specs.Order.{zarith, Abs, abs_parts}
-use Rattle.circuit.specs.Record.{row_in, row_at, is_leaf, is_input, row_limit}
+use Rattle.circuit.specs.Record.{row_at, part_at, reversed_at, is_leaf, is_input, row_limit}
 use Rattle.circuit.specs.Curve.{wave_limit}
-use Rattle.circuit.specs.Numbers.{done, judge, passes}
-use Rattle.circuit.specs.SetUp.{nothing, prepared_rows, set_up_report, set_up_rows}
+use Rattle.circuit.specs.Numbers.{passes}
 use Rattle.circuit.specs.Sample.{Rounding, whole_waves, rounding_of, sends, part_sends, turned, sent, raised, stored_at}
-use Rattle.circuit.specs.Promises.{ratios_of}
-use Rattle.circuit.specs.Run.{fresh_waves, sound_wave, stored_waves_rule, Charged, charged_rules}
+use Rattle.circuit.specs.Run.{sound_wave, stored_waves_rule}
 use Rattle.circuit.specs.declared.Element.TheVariants.{Resistor, Capacitor, Inductor, Input, Steady}
 use Rattle.circuit.specs.declared.Part.{Part}
 use Rattle.circuit.specs.declared.Part.TheVariants.{Blank, Leaf, Adaptor}
 use Rattle.circuit.specs.declared.Row.{Row}
 use Rattle.circuit.specs.declared.Record.{Record}
-use Rattle.laws.specs.Accepted.{Sized}
 use Rattle.laws.proofs.Counting as Counting
-use Rattle.laws.proofs.Charging.{Cleared, zero_cleared}
 use Rattle.parts.specs.Parts.{facing_of, part_taken}
 use Rattle.engine.specs.Plan.{Seated}
-use Rattle.engine.specs.Sweep.{Modest}
 use Rattle.engine.specs.Sample.{turned_by, Loaded}
-use Rattle.engine.specs.Play.{Playable}
 use Rattle.engine.proofs.Facing.{facing_turned, turned_back}
 use Rattle.engine.proofs.Limits.{within_abs}
 use Rattle.engine.proofs.Placing.{Placed, placed_all}
-
--- ---- before
-
--- what set-up hands back, where it refuses nothing
-kept_rows : (r : Record) → set_up_report r ≡ done → set_up_rows r ≡ prepared_rows r
-unfolding set_up_rows
-kept_rows r e = rw e
-
--- a circuit with its waves that 3 to 12 do not refuse
-pub playable : (k : Charged) (ratios : List ℕ) → Sized k.circuit → ratios ≡ ratios_of (set_up_rows k.circuit) → (judge charged_rules k).number ≡ 0
-    → Playable k.circuit ratios k.waves
-playable k ratios sized e z =
-    let h = zero_cleared k z in
-    record {
-      ready = record {
-        sized = sized;
-        set_up = h.set_up;
-        prepared = λ j l. rw (e, kept_rows k.circuit h.set_up) (get_or-map (λ q. q.ratio) (prepared_rows k.circuit) j nothing);
-      };
-      waves = h.waves;
-    }
-
-pub cleared : {r : Record} {ratios : List ℕ} {ws : List ℤ} → Playable r ratios ws → Cleared (record { circuit = r; waves = ws })
-cleared p = record { set_up = p.ready.set_up; waves = p.waves }
 
 pub zeros_at : (n j : ℕ) → stored_at (replicate n (pos 0)) j ≡ pos 0
 zeros_at zero j = refl
 zeros_at (suc n) zero = refl
 zeros_at (suc n) (suc j) = zeros_at n j
-
--- no wave has come down yet
-pub fresh_modest : Modest fresh_waves
-unfolding fresh_waves
-fresh_modest = record { long = refl; small = λ s. rw (zeros_at row_limit s) (omega zarith) }
-
--- ---- stored waves in slots
 
 nought : (z : ℤ) → eqb (nat_abs z) 0 ≡ true → (pos 0 ≡ z) × Abs z wave_limit
 nought z e = let n = eqb-true (nat_abs z) 0 e in (omega (zarith, abs_parts z), record { bound = omega arith })
@@ -95,8 +58,8 @@ sound_taken ρ (Leaf (Steady v m)) b z w h up = none_taken b z h
 sound_taken ρ (Adaptor a) b z w h up = none_taken b z h
 
 -- what `unload` takes out for row j
-abbrev pub out_of : List Row → List ℕ → List ℤ → ℕ → ℤ
-out_of rows slots ups j = turned_by (facing_of (row_in rows j).reversed) (part_taken (row_in rows j).part (stored_at ups (get_or slots j 0)))
+abbrev pub out_of : Record → List ℕ → List ℤ → ℕ → ℤ
+out_of r slots ups j = turned_by (facing_of (reversed_at r j)) (part_taken (part_at r j) (stored_at ups (get_or slots j 0)))
 
 -- what `load` puts up for row j
 abbrev pub up_of : Rounding → List ℤ → ℕ → Row → ℤ
@@ -106,36 +69,33 @@ pub up_turned : (ρ : Rounding) (ws : List ℤ) (j : ℕ) (w : Row) {f s : ℤ} 
     → s ≡ part_sends (whole_waves ρ) (pos 0) (stored_at ws j) w.part → turned_by f s ≡ up_of ρ ws j w
 up_turned ρ ws j w faced own = ap₂ turned_by faced own ∙ facing_turned ρ w.reversed _
 
-module _ {rows : List Row} {count : ℕ} {slots : List ℕ} {r : Record} (h : Seated rows count slots r) where
+module _ {r : Record} {slots : List ℕ} (h : Seated r slots) where
   -- rows in their slots, as `load` fills them
   pub loaded : {ws ups : List ℤ} → length ws ≡ row_limit → stored_waves_rule r ws ≡ passes
-      → Placed (pos 0) slots (λ j. up_of (rounding_of r.version) ws j (row_in rows j)) count ups → Loaded r ws ups
+      → Placed (pos 0) slots (λ j. up_of (rounding_of r.version) ws j (row_at r j)) r.count ups → Loaded r ws ups
   unfolding raised sent stored_waves_rule
-  loaded {ws} size waves p = record {
+  loaded size waves p = record {
     size = size;
     long = p.long;
     sound = λ j l. not-false _ (Counting.lowest_passes _ row_limit waves j l);
-    leaves = λ j l e f.
-        placed_all (up_of (rounding_of r.version) ws) p r h.prepared h.all h.many h.layable j (rw h.many at l);
+    leaves = λ j l e f. placed_all h p j l;
   }
 
   module _ {ws ups : List ℤ} (l : Loaded r ws ups) where
-    pub taken : (j : ℕ) → j < count → (out_of rows slots ups j ≡ stored_at ws j) × Abs (stored_at ws j) wave_limit
+    pub taken : (j : ℕ) → j < r.count → (out_of r slots ups j ≡ stored_at ws j) × Abs (stored_at ws j) wave_limit
     unfolding raised sent
     taken j m =
-        let n = rw (← h.many) at m in
-        let short = h.layable.accepted.short in
-        let row = row_at r j in
-        rw (← h.all, h.layable.slot j n)
-        (sound_taken (rounding_of r.version) row.part row.reversed (stored_at ws j) _ (l.sound j (omega arith)) (l.leaves j n))
+        let short = h.accepted.short in
+        rw (h.slot j m)
+        (sound_taken (rounding_of r.version) (part_at r j) (reversed_at r j) (stored_at ws j) _ (l.sound j (omega arith)) (l.leaves j m))
 
     -- the rows after the last have none
-    pub all_taken : {after : List ℤ} → length after ≡ row_limit → ((j : ℕ) → j < count → stored_at after j ≡ out_of rows slots ups j)
-        → ((j : ℕ) → count ≤ j → stored_at after j ≡ pos 0) → after ≡ ws
-    all_taken {after} size each rest = ext_get_or (pos 0) after ws (size ∙ sym l.size) (λ j m. by j (omega arith) (dec_lt j count))
+    pub all_taken : {after : List ℤ} → length after ≡ row_limit → ((j : ℕ) → j < r.count → stored_at after j ≡ out_of r slots ups j)
+        → ((j : ℕ) → r.count ≤ j → stored_at after j ≡ pos 0) → after ≡ ws
+    all_taken {after} size each rest = ext_get_or (pos 0) after ws (size ∙ sym l.size) (λ j m. by j (omega arith) (dec_lt j r.count))
       where
-        by : (j : ℕ) → j < row_limit → Dec (j < count) → stored_at after j ≡ stored_at ws j
+        by : (j : ℕ) → j < row_limit → Dec (j < r.count) → stored_at after j ≡ stored_at ws j
         by j m (yes n) = each j n ∙ (taken j n).0
         by j m (no n) =
-            let blank = h.layable.accepted.blank j (omega (arith, h.many)) in
+            let blank = h.accepted.blank j (omega arith) in
             rest j (omega arith) ∙ (nought (stored_at ws j) (rw blank at (l.sound j m))).0

@@ -2,13 +2,12 @@
 use Prim.Native.Nat.{ℕ, ◌+◌, ◌<◌, ◌≤◌}
 use native.Mathlib.Omega.{arith}
 use borrow.Author.Count.{below_none}
-use mathlib.Core.Path.{◌≡◌, sym, ap, ◌∙◌, subst}
+use mathlib.Core.Path.{◌≡◌, sym, ap, ◌∙◌}
 use mathlib.Core.List.{List}
 use lib.ListN.{length, get_or, set, length-set}
-use Rattle.circuit.specs.Record.{row_limit, row_in, row_at}
-use Rattle.circuit.specs.declared.Row.{Row}
+use Rattle.circuit.specs.Record.{row_limit}
 use Rattle.circuit.specs.declared.Record.{Record}
-use Rattle.engine.specs.Plan.{slot_of, Layable}
+use Rattle.engine.specs.Plan.{slot_of, Seated}
 use Rattle.engine.proofs.Fill.{stored_more}
 use Rattle.engine.proofs.Slots.{low, same_row}
 
@@ -20,10 +19,10 @@ pub record Own (slots : List ℕ) (count : ℕ) : Type 0 where
   pub low : (j : ℕ) → j < count → get_or slots j 0 < row_limit
   pub own : (i j : ℕ) → i < count → j < count → get_or slots i 0 ≡ get_or slots j 0 → i ≡ j
 
-pub laid_own : {r : Record} {prepared slots : List ℕ} {count : ℕ} → r.count ≡ count → Layable r prepared slots → Own slots count
-laid_own {r} {slots = slots} e h =
+pub seated_own : {r : Record} {slots : List ℕ} → Seated r slots → Own slots r.count
+seated_own {r} h =
     let s = h.slotted in
-    subst (Own slots) e record {
+    record {
       short = h.accepted.short;
       low = λ j l. rw (h.slot j l) (omega (arith, low r h.accepted j l, s.few));
       own = λ i j l m q. same_row s i j l m (sym (h.slot i l) ∙ q ∙ h.slot j m);
@@ -49,9 +48,7 @@ module _ {A : Type 0} {d : A} {slots : List ℕ} {f : ℕ → A} {l : List A} wh
         (λ j m q. value ∙ ap f (h.own i j inside (omega arith) (sym e ∙ sym q)));
   }
 
--- what every circuit with these rows and slots then has
-pub placed_all : {A : Type 0} {d : A} {slots : List ℕ} {rows : List Row} {count : ℕ} {l : List A} (f : ℕ → Row → A)
-    → Placed d slots (λ j. f j (row_in rows j)) count l → (r : Record) (prepared : List ℕ) → r.rows ≡ rows → r.count ≡ count
-    → Layable r prepared slots → (j : ℕ) → j < count → get_or l (slot_of r j) d ≡ f j (row_at r j)
-placed_all {d = d} {l = l} f p r prepared e n h j m =
-    ap (λ s. get_or l s d) (sym (h.slot j (omega arith))) ∙ p.at j m ∙ ap (λ (rows : List Row). f j (row_in rows j)) (sym e)
+-- what the circuit then has, whose rows stand in these slots
+pub placed_all : {A : Type 0} {d : A} {r : Record} {slots : List ℕ} {f : ℕ → A} {l : List A} → Seated r slots → Placed d slots f r.count l
+    → (j : ℕ) → j < r.count → get_or l (slot_of r j) d ≡ f j
+placed_all {d = d} {l = l} h p j m = ap (λ s. get_or l s d) (sym (h.slot j m)) ∙ p.at j m

@@ -22,7 +22,7 @@ use Rattle.circuit.specs.declared.Join.{Join}
 use Rattle.circuit.specs.declared.Join.TheVariants.{Series, Parallel}
 use Rattle.laws.specs.Accepted.{adaptor_limit, adaptors}
 use Rattle.laws.proofs.Roundings.{mixed, u_to_zero, b1_to_zero}
-use Rattle.engine.specs.Wave.{up_limit, down_limit, sum_limit, Share, way, Below, Beneath}
+use Rattle.engine.specs.Wave.{up_limit, down_limit, sum_limit, Share, way, Known, Below, Beneath}
 
 -- ---- what is rounded, with ratio g
 
@@ -84,9 +84,12 @@ module _ (g : ℕ) (less : g < parts) where
         );
   }
 
-  mixes : (inward : Bool) → Mixes (way inward) g
-  mixes true = to_zero_mixes
-  mixes false = down_mixes
+  way_mixes : (inward : Bool) → Mixes (way inward) g
+  way_mixes true = to_zero_mixes
+  way_mixes false = down_mixes
+
+  mixes : {ρ : Rounding} → Known ρ → Mixes ρ g
+  mixes k = rw k.1 (way_mixes k.0)
 
 -- ---- one adaptor
 
@@ -94,42 +97,42 @@ module _ (g : ℕ) (less : g < parts) where
 abbrev pub sends_to : Rounding → Bool → Join → ℕ → ℤ → ℤ → ℤ → ℤ
 sends_to ρ side = cond side (sends_first (whole_waves ρ)) (sends_second (whole_waves ρ))
 
-module _ (inward : Bool) (g : ℕ) (less : g < parts) {a1 a2 : ℤ} {e1 e2 : ℕ} (h1 : Abs a1 e1) (h2 : Abs a2 e2) where
-  up_range : (k : Join) → Abs (sends_up (whole_waves (way inward)) k g a1 a2) (e1 + e2)
+module _ {ρ : Rounding} (known : Known ρ) (g : ℕ) (less : g < parts) {a1 a2 : ℤ} {e1 e2 : ℕ} (h1 : Abs a1 e1) (h2 : Abs a2 e2) where
+  up_range : (k : Join) → Abs (sends_up (whole_waves ρ) k g a1 a2) (e1 + e2)
   unfolding sends_up
   up_range Series = omega (zarith, is_neg (at a1 ⊞ at a2))
   up_range Parallel =
-      let m = (mixes g less inward).u a1 a2 in
+      let m = (mixes g less known).u a1 a2 in
       let t = a1 -ℤ a2 in
       rw m.1 (omega (zarith, m.2, at a1 ⊟ at a2, abs_parts t, at a2 ⊞ at m.0))
 
   module _ {a3 : ℤ} {e3 : ℕ} (h3 : Abs a3 e3) where
-    pub down_range : (side : Bool) (k : Join) → Abs (sends_to (way inward) side k g a1 a2 a3) (e1 + e2 + e3)
+    pub down_range : (side : Bool) (k : Join) → Abs (sends_to ρ side k g a1 a2 a3) (e1 + e2 + e3)
     unfolding sends_first sends_second
     down_range true Series =
-        let m = (mixes g less inward).b1 a1 a2 a3 in
+        let m = (mixes g less known).b1 a1 a2 a3 in
         let t = a1 +ℤ a2 +ℤ a3 in
         rw m.1 (omega (zarith, m.2, at a1 ⊞ at a2 ⊞ at a3, abs_parts t, at a1 ⊟ at m.0))
     down_range false Series =
-        let m = (mixes g less inward).b1 a1 a2 a3 in
+        let m = (mixes g less known).b1 a1 a2 a3 in
         let t = a1 +ℤ a2 +ℤ a3 in
         rw m.1 (omega (zarith, m.2, at a1 ⊞ at a2 ⊞ at a3, abs_parts t, is_neg (at a3 ⊞ (at a1 ⊟ at m.0))))
     down_range true Parallel =
-        let m = (mixes g less inward).u a1 a2 in
+        let m = (mixes g less known).u a1 a2 in
         let t = a1 -ℤ a2 in
         rw m.1 (omega (zarith, m.2, at a1 ⊟ at a2, abs_parts t, at a2 ⊞ at m.0 ⊞ at a3 ⊟ at a1))
     down_range false Parallel =
-        let m = (mixes g less inward).u a1 a2 in
+        let m = (mixes g less known).u a1 a2 in
         let t = a1 -ℤ a2 in
         rw m.1 (omega (zarith, m.2, at a1 ⊟ at a2, abs_parts t, at a2 ⊞ at m.0 ⊞ at a3 ⊟ at a2))
 
 -- ---- a tree whose leaves keep a wave's limit
 
-module _ (inward : Bool) (g : ℕ → ℕ) (w : ℕ → ℤ) (ratio : (j : ℕ) → g j < parts) (quiet : (j : ℕ) → Abs (w j) wave_limit) where
-  pub tree_range : (t : Tree) → Abs (up (whole_waves (way inward)) g w t) (up_limit (adaptors t))
+module _ {ρ : Rounding} (known : Known ρ) (g : ℕ → ℕ) (w : ℕ → ℤ) (ratio : (j : ℕ) → g j < parts) (quiet : (j : ℕ) → Abs (w j) wave_limit) where
+  pub tree_range : (t : Tree) → Abs (up (whole_waves ρ) g w t) (up_limit (adaptors t))
   unfolding up adaptors
   tree_range (leaf j) = abs_as (quiet j) refl (omega arith)
-  tree_range (adaptor k j t1 t2) = abs_as (up_range inward (g j) (ratio j) (tree_range t1) (tree_range t2) k) refl (omega arith)
+  tree_range (adaptor k j t1 t2) = abs_as (up_range known (g j) (ratio j) (tree_range t1) (tree_range t2) k) refl (omega arith)
 
 -- ---- the steps of the code fit, and come to what the definition sends
 
@@ -161,13 +164,13 @@ part_range {g} {t} share small =
     omega (zarith, small, b, abs_parts t)
 
 -- what a parallel adaptor sends up
-pub parallel_fits : (inward : Bool) {g a1 a2 : ℤ} → Below g a1 a2 → Fits ((way inward).u (nat_abs g) a1 a2)
+pub parallel_fits : {ρ : Rounding} → Known ρ → {g a1 a2 : ℤ} → Below g a1 a2 → Fits (ρ.u (nat_abs g) a1 a2)
 unfolding sends_up
-parallel_fits inward {g} b =
-    let small = up_range inward (nat_abs g) b.ratio.part b.first b.second Parallel in
+parallel_fits known {g} b =
+    let small = up_range known (nat_abs g) b.ratio.part b.first b.second Parallel in
     omega (zfits, small)
 
-module _ {inward : Bool} {k : Join} {g a1 a2 u a3 : ℤ} (b : Beneath inward k g a1 a2 u a3) where
+module _ {ρ : Rounding} (known : Known ρ) {k : Join} {g a1 a2 u a3 : ℤ} (b : Beneath ρ k g a1 a2 u a3) where
   abbrev n : ℕ
   n = nat_abs g
 
@@ -177,11 +180,11 @@ module _ {inward : Bool} {k : Join} {g a1 a2 u a3 : ℤ} (b : Beneath inward k g
   down_fits =
       let t = a3 -ℤ u in
       let size : Abs u (2 * up_limit adaptor_limit) =
-      rw b.sent (abs_as (up_range inward n b.below.ratio.part b.below.first b.below.second k) refl (omega arith)) in
+      rw b.sent (abs_as (up_range known n b.below.ratio.part b.below.first b.below.second k) refl (omega arith)) in
       omega (zfits, b.below.first, b.below.second, b.above, at u ⊞ at a3, at u ⊞ at a3 ⊟ at a1, at u ⊞ at a3 ⊟ at a2, at a3 ⊟ at u, abs_parts t)
 
   pub parallel_down : k ≡ Parallel
-      → (u +ℤ a3 -ℤ a1 ≡ sends_first (whole_waves (way inward)) k n a1 a2 a3) × (u +ℤ a3 -ℤ a2 ≡ sends_second (whole_waves (way inward)) k n a1 a2 a3)
+      → (u +ℤ a3 -ℤ a1 ≡ sends_first (whole_waves ρ) k n a1 a2 a3) × (u +ℤ a3 -ℤ a2 ≡ sends_second (whole_waves ρ) k n a1 a2 a3)
   unfolding sends_up sends_first sends_second
   parallel_down kind = rw (b.sent, kind) (refl, refl)
 
@@ -191,15 +194,15 @@ module _ {inward : Bool} {k : Join} {g a1 a2 u a3 : ℤ} (b : Beneath inward k g
     unfolding sends_up
     series_sum = rw (b.sent, kind) (omega (zarith, at a3 ⊟ is_neg (at a1 ⊞ at a2), at a1 ⊞ at a2 ⊞ at a3))
 
-    module _ {first : ℤ} (e : first ≡ (way inward).b1 n a1 a2 a3) where
+    module _ {first : ℤ} (e : first ≡ ρ.b1 n a1 a2 a3) where
       pub series_fits : Fits first × Fits (a3 +ℤ first) × Fits (pos 0 -ℤ (a3 +ℤ first))
       unfolding sends_first
       series_fits =
           let small : Abs first (up_limit adaptor_limit + up_limit adaptor_limit + down_limit adaptor_limit) =
-          rw e (down_range inward n b.below.ratio.part b.below.first b.below.second b.above true Series) in
+          rw e (down_range known n b.below.ratio.part b.below.first b.below.second b.above true Series) in
           omega (zfits, b.above, at a3 ⊞ at first, at (pos 0) ⊟ (at a3 ⊞ at first))
 
-      pub series_down : (first ≡ sends_first (whole_waves (way inward)) k n a1 a2 a3)
-          × (pos 0 -ℤ (a3 +ℤ first) ≡ sends_second (whole_waves (way inward)) k n a1 a2 a3)
+      pub series_down : (first ≡ sends_first (whole_waves ρ) k n a1 a2 a3)
+          × (pos 0 -ℤ (a3 +ℤ first) ≡ sends_second (whole_waves ρ) k n a1 a2 a3)
       unfolding sends_first sends_second
       series_down = rw (kind, e) (refl, +ℤ_idl _)

@@ -8,7 +8,7 @@ use lib.Dec.{eqb}
 use Rattle.circuit.specs.Counting.{one}
 use Rattle.circuit.specs.Record.{is_blank, is_input, is_adaptor}
 use Rattle.circuit.specs.declared.Element.TheVariants.{Resistor, Capacitor, Inductor, Input, Steady}
-use Rattle.circuit.specs.declared.Adaptor.{Adaptor as Joint}
+use Rattle.circuit.specs.declared.Adaptor.{Adaptor as Joined}
 use Rattle.circuit.specs.declared.Part.{Part}
 use Rattle.circuit.specs.declared.Part.TheVariants.{Blank, Leaf, Adaptor}
 use Rattle.laws.specs.Accepted.{Child}
@@ -34,10 +34,10 @@ role (Adaptor a) = record { few = omega arith; once = refl; input = refl; adapto
 pub role_few : (p : Part) → is_blank p ≡ false → role_of p < 4
 role_few p e = let other = eqb-false (role_of p) 4 ((role p).blank ∙ e) in omega (arith, (role p).few)
 
-pub joint_of : (p : Part) → is_adaptor p ≡ true → (a : Joint) × (p ≡ Adaptor a)
-joint_of Blank e = absurd (true≢false (sym e))
-joint_of (Leaf x) e = absurd (true≢false (sym e))
-joint_of (Adaptor a) e = (a, refl)
+pub joined : (p : Part) → is_adaptor p ≡ true → (a : Joined) × (p ≡ Adaptor a)
+joined Blank e = absurd (true≢false (sym e))
+joined (Leaf x) e = absurd (true≢false (sym e))
+joined (Adaptor a) e = (a, refl)
 
 pub parent_role : (p : Part) (c : ℕ) → Child p c → role_of p ≡ 3
 unfolding Child role_of

@@ -27,7 +27,8 @@ use Rattle.circuit.specs.declared.Record.{Record}
 use Rattle.laws.proofs.Drawn.{answer_never_exceeds}
 use Rattle.laws.proofs.Trees as Trees
 use Rattle.parts.specs.Parts.{role_of}
-use Rattle.engine.specs.Plan.{floor, slot_of, top_slot, Plan}
+use Rattle.engine.specs.declared.plan.Plan.{Plan}
+use Rattle.engine.specs.Plan.{floor, slot_of, top_slot}
 use Rattle.engine.specs.Sweep.{rises, Risen, Swept, Climbs, Modest, Drops, Reached}
 use Rattle.engine.specs.Sample.{Turn, turned_by, Fixed, Loaded, LaidOut}
 use Rattle.engine.proofs.Facing.{part_turn, turned_range, input_turned}
@@ -48,30 +49,30 @@ LeafSlot n s = (s < n) ⊎ (s ≡ floor)
 
 module _ {p : Plan} {r : Record} (fixed : Fixed p r) where
   abbrev n : ℕ
-  n = p.shape.adaptors
+  n = p.adaptors
 
   -- a leaf's row is in use
   pub leaf_inside : (j : ℕ) → is_leaf (part_at r j) ≡ true → j < r.count
-  leaf_inside j e = elim (dec_lt j r.count) [ yes l ↦ l | no l ↦ absurd (true≢false (sym e ∙ ap is_leaf (fixed.accepted.blank j (omega arith)))) ]
+  leaf_inside j e = elim (dec_lt j r.count) [ yes l ↦ l | no l ↦ absurd (true≢false (sym e ∙ ap is_leaf (fixed.seated.accepted.blank j (omega arith)))) ]
 
   -- a row in use is a leaf's where its slot is not above the floor
   low_leaf : (j : ℕ) → j < r.count → slot_of r j ≤ floor → is_leaf (part_at r j) ≡ true
   low_leaf j l h = by (part_at r j) refl
     where
       by : (p : Part) → part_at r j ≡ p → is_leaf p ≡ true
-      by Blank e = absurd (true≢false (sym (ap is_blank e) ∙ fixed.accepted.present j l))
+      by Blank e = absurd (true≢false (sym (ap is_blank e) ∙ fixed.seated.accepted.present j l))
       by (Leaf y) e = refl
-      by (Adaptor a) e = absurd (omega (arith, adaptor_slot fixed.slotted j l e))
+      by (Adaptor a) e = absurd (omega (arith, adaptor_slot fixed.seated.slotted j l e))
 
   -- only the input stands at the floor
   stands : (j : ℕ) → j < r.count → (y : Element) → part_at r j ≡ Leaf y
       → ((slot_of r j < n) × (is_input (Leaf y) ≡ false)) ⊎ ((slot_of r j ≡ floor) × (is_input (Leaf y) ≡ true))
   unfolding role_of
-  stands j l (Resistor v) e = inl (omega (arith, fixed.slotted.other j l (ap role_of e)), refl)
-  stands j l (Capacitor v) e = inl (omega (arith, fixed.slotted.reactive j l (ap role_of e)), refl)
-  stands j l (Inductor v) e = inl (omega (arith, fixed.slotted.reactive j l (ap role_of e)), refl)
-  stands j l (Input v) e = inr (fixed.slotted.input j l (ap role_of e), refl)
-  stands j l (Steady v m) e = inl (omega (arith, fixed.slotted.other j l (ap role_of e)), refl)
+  stands j l (Resistor v) e = inl (omega (arith, fixed.seated.slotted.other j l (ap role_of e)), refl)
+  stands j l (Capacitor v) e = inl (omega (arith, fixed.seated.slotted.reactive j l (ap role_of e)), refl)
+  stands j l (Inductor v) e = inl (omega (arith, fixed.seated.slotted.reactive j l (ap role_of e)), refl)
+  stands j l (Input v) e = inr (fixed.seated.slotted.input j l (ap role_of e), refl)
+  stands j l (Steady v m) e = inl (omega (arith, fixed.seated.slotted.other j l (ap role_of e)), refl)
 
   pub leaf_slot : (j : ℕ) → is_leaf (part_at r j) ≡ true → LeafSlot n (slot_of r j)
   leaf_slot j e =
@@ -82,20 +83,20 @@ module _ {p : Plan} {r : Record} (fixed : Fixed p r) where
   slot_low (inl l) = omega arith
   slot_low (inr e) = omega arith
 
-  there : (s : ℕ) → LeafSlot n s → (fixed.slotted.row s < r.count) × (slot_of r (fixed.slotted.row s) ≡ s)
-  there s (inl l) = fixed.slotted.leaf s (omega arith)
-  there s (inr e) = rw e fixed.slotted.source
+  there : (s : ℕ) → LeafSlot n s → (fixed.seated.slotted.row s < r.count) × (slot_of r (fixed.seated.slotted.row s) ≡ s)
+  there s (inl l) = fixed.seated.slotted.leaf s (omega arith)
+  there s (inr e) = rw e fixed.seated.slotted.source
 
   pub slot_leaf : (s : ℕ) → LeafSlot n s → (j : ℕ) × (j < r.count) × (is_leaf (part_at r j) ≡ true) × (slot_of r j ≡ s)
   slot_leaf s k =
       let t = there s k in
       let low = slot_low k in
-      (fixed.slotted.row s, t.0, low_leaf (fixed.slotted.row s) t.0 (omega (arith, t.1)), t.1)
+      (fixed.seated.slotted.row s, t.0, low_leaf (fixed.seated.slotted.row s) t.0 (omega (arith, t.1)), t.1)
 
   -- what a leaf's slot is turned by
-  pub slot_turn : (s : ℕ) → (fixed.slotted.row s < r.count) × (slot_of r (fixed.slotted.row s) ≡ s) → Turn (stored_at p.turns s)
+  pub slot_turn : (s : ℕ) → (fixed.seated.slotted.row s < r.count) × (slot_of r (fixed.seated.slotted.row s) ≡ s) → Turn (stored_at p.turns s)
   slot_turn s t =
-      let j = fixed.slotted.row s in
+      let j = fixed.seated.slotted.row s in
       subst (λ (i : ℕ). Turn (stored_at p.turns i)) t.1 (rw (fixed.turn j t.0) (part_turn (part_at r j) (reversed_at r j)))
 
 -- ---- what one leaf sends
@@ -163,7 +164,7 @@ module _ {p : Plan} {ups ds : List ℤ} (k : LaidOut p ups ds) (x : ℤ) where
   leaf_rises : (j : ℕ) → is_leaf (part_at r j) ≡ true → rises r sends_at j ≡ sends_at j
   leaf_rises j e =
       let y = leaf_of (part_at r j) e in
-      Trees.up_leaf r k.fixed.accepted.lower j (Trees.tree_leaf r k.fixed.accepted.lower j y.0 y.1) (rounded r) (ratio_at r) sends_at
+      Trees.up_leaf r k.fixed.seated.accepted.lower j (Trees.tree_leaf r k.fixed.seated.accepted.lower j y.0 y.1) (rounded r) (ratio_at r) sends_at
 
   -- in the input's row
   enters : (j : ℕ) → j < r.count → slot_of r j ≡ floor → is_input (part_at r j) ≡ true → entered ≡ turned (rounded r) (reversed_at r j) x
@@ -198,24 +199,24 @@ module _ {p : Plan} {ups ds : List ℤ} (k : LaidOut p ups ds) (x : ℤ) where
     unfolding raised sent
     quiet j = turned_range (rounding_of r.version) (reversed_at r j) (elim (dec_lt j r.count) [
       | yes l ↦
-          let sound = k.loaded.sound j (omega (arith, k.fixed.accepted.short)) in
-          part_quiet (rounding_of r.version) x (stored_at k.stored j) (part_at r j) source sound (is_true _ (k.fixed.accepted.sound j l))
-      | no l ↦ rw (k.fixed.accepted.blank j (omega arith)) none
+          let sound = k.loaded.sound j (omega (arith, k.fixed.seated.accepted.short)) in
+          part_quiet (rounding_of r.version) x (stored_at k.stored j) (part_at r j) source sound (is_true _ (k.fixed.seated.accepted.sound j l))
+      | no l ↦ rw (k.fixed.seated.accepted.blank j (omega arith)) none
     ])
 
-    abbrev pub swept : Swept p.shape.inward p.joints p.shape.adaptors
+    abbrev pub swept : Swept p
     swept = record {
       circuit = r;
       wave = sends_at;
-      accepted = k.fixed.accepted;
-      slotted = k.fixed.slotted;
+      accepted = k.fixed.seated.accepted;
+      slotted = k.fixed.seated.slotted;
       all = k.fixed.adaptors;
       staged = k.fixed.staged;
       rounds = k.fixed.rounds;
       quiet = quiet;
     }
 
-    abbrev pub climbs : Climbs p.shape.inward p.joints p.shape.adaptors (set ups floor entered)
+    abbrev pub climbs : Climbs p (set ups floor entered)
     climbs = record { swept = swept; begun = begun }
 
   -- ---- between the sweeps
@@ -223,12 +224,12 @@ module _ {p : Plan} {ups ds : List ℤ} (k : LaidOut p ups ds) (x : ℤ) where
   -- what the sweep up leaves
   pub record Raised (above : List ℤ) : Type 0 where
     pub source : within source_limit x ≡ true
-    pub up : Risen r sends_at (suc floor + p.shape.adaptors) above
+    pub up : Risen r sends_at (suc floor + p.adaptors) above
 
   module _ {above : List ℤ} (h : Raised above) where
     -- the top's slot, and the wave there
     abbrev top : ℕ
-    top = floor + p.shape.adaptors
+    top = floor + p.adaptors
 
     abbrev wave : ℤ
     wave = stored_at above top
@@ -254,8 +255,8 @@ module _ {p : Plan} {ups ds : List ℤ} (k : LaidOut p ups ds) (x : ℤ) where
     pub top_wave : wave ≡ risen (rounded r) r (stored_at k.stored) x
     unfolding risen tree_of last_row
     top_wave =
-        let last = k.fixed.slotted.last in
-        ap (stored_at above) (top_slot_lem ∙ sym last) ∙ h.up.right (r.count - 1) (omega (arith, k.fixed.accepted.some)) (omega (arith, top_slot_lem))
+        let last = k.fixed.seated.slotted.last in
+        ap (stored_at above) (top_slot_lem ∙ sym last) ∙ h.up.right (r.count - 1) (omega (arith, k.fixed.seated.accepted.some)) (omega (arith, top_slot_lem))
 
     pub refuses_top : within wave_limit wave ≡ false → sampled r k.stored x ≡ refused 15
     unfolding sampled in_limit
@@ -265,12 +266,12 @@ module _ {p : Plan} {ups ds : List ℤ} (k : LaidOut p ups ds) (x : ℤ) where
       pub answer_range : Abs answer wave_limit
       answer_range =
           let limit = (within_abs wave_limit wave calm).bound in
-          record { bound = rw answers (omega (arith, answer_never_exceeds k.fixed.accepted.drawn wave)) }
+          record { bound = rw answers (omega (arith, answer_never_exceeds k.fixed.seated.accepted.drawn wave)) }
 
       pub answer_there : stored_at (set ds top answer) top ≡ answer
-      answer_there = get_or-set_same ds top answer (pos 0) (omega (arith, k.room.long, k.fixed.adaptors, k.fixed.slotted.few))
+      answer_there = get_or-set_same ds top answer (pos 0) (omega (arith, k.room.long, k.fixed.adaptors, k.fixed.seated.slotted.few))
 
-      abbrev pub drops : Drops p.shape.inward p.joints p.shape.adaptors above (set ds top answer)
+      abbrev pub drops : Drops p above (set ds top answer)
       drops = record {
         swept = swept h.source;
         risen = h.up;

@@ -10,7 +10,7 @@ use lib.Dec.{eqb}
 use Rattle.circuit.specs.Counting.{total, one}
 use Rattle.circuit.specs.Numbers.{Verdict, passes, fails, lowest}
 use Rattle.circuit.specs.Record.{part_at, inputs, adaptors_of}
-use Rattle.circuit.specs.declared.Adaptor.{Adaptor as Joint}
+use Rattle.circuit.specs.declared.Adaptor.{Adaptor as Joined}
 use Rattle.circuit.specs.declared.Part.TheVariants.{Blank, Adaptor}
 use Rattle.circuit.specs.declared.Record.{Record}
 use Rattle.laws.specs.Accepted.{Child, Accepted}
@@ -202,7 +202,7 @@ slotted r acc = record {
 pub same_row : {r : Record} → Slotted r → (i j : ℕ) → i < r.count → j < r.count → slot_of r i ≡ slot_of r j → i ≡ j
 same_row slotted i j l m e = sym (slotted.back i l) ∙ ap slotted.row e ∙ slotted.back j m
 
-pub adaptor_slot : {r : Record} → Slotted r → (p : ℕ) {a : Joint} → p < r.count → part_at r p ≡ Adaptor a
+pub adaptor_slot : {r : Record} → Slotted r → (p : ℕ) {a : Joined} → p < r.count → part_at r p ≡ Adaptor a
     → (floor < slot_of r p) × (slot_of r p ≤ top_slot r)
 unfolding role_of
 adaptor_slot slotted p l e = slotted.adaptor p l (ap role_of e)

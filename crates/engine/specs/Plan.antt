@@ -1,27 +1,23 @@
 -- What a run lays out of a record before its first sample: a slot for each row, and in the order of the slots what a sample reads.
-use Rattle.std.specs.Prelude.{ℕ, zero, suc, ◌+◌, ◌-◌, ◌<◌, ◌≤◌, ◌≡◌, cond, List, eqb, ℤ, pos, length, get_or}
+use Rattle.std.specs.Prelude.{ℕ, zero, suc, ◌+◌, ◌-◌, ◌<◌, ◌≤◌, ◌≡◌, cond, List, eqb, ℤ, pos, get_or}
 use Rattle.circuit.specs.Counting.{total, one}
 use Rattle.circuit.specs.Record.{top, row_in, part_at, adaptors_of}
-use Rattle.circuit.specs.SetUp.{ratio_at}
-use Rattle.circuit.specs.declared.Join.{Join}
-use Rattle.circuit.specs.declared.Join.TheVariants.{Series, Parallel}
-use Rattle.circuit.specs.declared.Adaptor.{Adaptor as Joint}
+use Rattle.circuit.specs.SetUp.{nothing, ratio_at}
+use Rattle.circuit.specs.declared.Join.TheVariants.{Parallel}
+use Rattle.circuit.specs.declared.Adaptor.{Adaptor as Joined}
 use Rattle.circuit.specs.declared.Part.TheVariants.{Adaptor}
+use Rattle.circuit.specs.declared.Prepared.{Prepared}
 use Rattle.circuit.specs.declared.Row.{Row}
 use Rattle.circuit.specs.declared.Record.{Record}
 use Rattle.laws.specs.Accepted.{adaptor_limit, Child, Accepted}
 use Rattle.parts.specs.Parts.{role_of, facing_of}
-use Rattle.engine.specs.declared.plan.Shape.{Shape}
+use Rattle.engine.specs.declared.plan.Joint.{Joint}
 
 -- ---- slots
 
 -- the input's slot: the slots of the other leaves are below it, those of the adaptors above it
 abbrev pub floor : ℕ
 floor = adaptor_limit
-
--- so many of the rows have these roles
-abbrev pub Roled : List Row → ℕ → List ℕ → Type 0
-Roled rows count roles = (j : ℕ) → j < count → get_or roles j 0 ≡ role_of (row_in rows j).part
 
 -- how many of the first n rows have a role
 unfoldable pub rank : List Row → ℕ → ℕ → ℕ
@@ -68,32 +64,26 @@ pub record Slotted (r : Record) : Type 0 where
 
 -- ---- adaptors, by their places k in the sweep
 
--- their kinds as numbers, their children's slots, and their ratios
-pub record Joints : Type 0 where
-  pub joins : List ℕ
-  pub firsts : List ℕ
-  pub seconds : List ℕ
-  pub ratios : List ℤ
+-- past the last one, one that is never read
+abbrev pub no_joint : Joint
+no_joint = record { join = Parallel; first = 0; second = 0; ratio = pos 0 }
 
-abbrev pub joints_of : List ℕ → List ℕ → List ℕ → List ℤ → Joints
-joints_of joins firsts seconds ratios = record { joins = joins; firsts = firsts; seconds = seconds; ratios = ratios }
-
-abbrev pub join_of : ℕ → Join
-join_of code = cond (eqb code 0) Parallel Series
+abbrev pub joint_in : List Joint → ℕ → Joint
+joint_in joints k = get_or joints k no_joint
 
 -- what stands at k is of the adaptor with slot floor + 1 + k
-pub record Stage (r : Record) (js : Joints) (k : ℕ) : Type 0 where
+pub record Stage (r : Record) (js : List Joint) (k : ℕ) : Type 0 where
   pub row : ℕ
-  pub joint : Joint
+  pub adaptor : Joined
   pub inside : row < r.count
-  pub part : part_at r row ≡ Adaptor joint
+  pub part : part_at r row ≡ Adaptor adaptor
   pub place : slot_of r row ≡ suc floor + k
-  pub join : join_of (get_or js.joins k 0) ≡ joint.join
-  pub first : get_or js.firsts k 0 ≡ slot_of r joint.first
-  pub second : get_or js.seconds k 0 ≡ slot_of r joint.second
-  pub ratio : get_or js.ratios k (pos 0) ≡ pos (ratio_at r row)
+  pub join : (joint_in js k).join ≡ adaptor.join
+  pub first : (joint_in js k).first ≡ slot_of r adaptor.first
+  pub second : (joint_in js k).second ≡ slot_of r adaptor.second
+  pub ratio : (joint_in js k).ratio ≡ pos (ratio_at r row)
 
-abbrev pub Staged : Record → Joints → Type 0
+abbrev pub Staged : Record → List Joint → Type 0
 Staged r js = (k : ℕ) → k < adaptors_of r → Stage r js k
 
 -- ---- the tap
@@ -106,37 +96,15 @@ tap_row r = cond (eqb r.tap top) (r.count - 1) r.tap
 abbrev pub meter_in : List Row → ℕ → ℤ
 meter_in rows tap = cond (eqb tap top) (pos 0) (facing_of (row_in rows tap).reversed)
 
--- ---- all that the samples of a run read
-
-pub record Plan : Type 0 where
-  pub shape : Shape
-  pub joints : Joints
-  -- by slot
-  pub turns : List ℤ
-  -- by segment
-  pub lines : List (List ℤ)
-
-abbrev pub plan_of : Shape → Joints → List ℤ → List (List ℤ) → Plan
-plan_of shape joints turns lines = record { shape = shape; joints = joints; turns = turns; lines = lines }
-
 -- ---- what the plan is laid out from
 
--- the rows' slots, and their ratios after set-up, of an accepted circuit
-pub record Layable (r : Record) (prepared slots : List ℕ) : Type 0 where
+-- an accepted circuit whose rows stand in these slots
+pub record Seated (r : Record) (slots : List ℕ) : Type 0 where
   pub accepted : Accepted r
   pub slotted : Slotted r
   pub slot : (j : ℕ) → j < r.count → get_or slots j 0 ≡ slot_of r j
-  pub ratio : (j : ℕ) → j < r.count → get_or prepared j 0 ≡ ratio_at r j
 
--- a circuit of so many rows, these, which stand in these slots
-pub record Seated (rows : List Row) (count : ℕ) (slots : List ℕ) (r : Record) : Type 0 where
-  pub prepared : List ℕ
-  pub all : r.rows ≡ rows
-  pub many : r.count ≡ count
-  pub layable : Layable r prepared slots
-
-pub record Roomy (js : Joints) : Type 0 where
-  pub joins : length js.joins ≡ adaptor_limit
-  pub firsts : length js.firsts ≡ adaptor_limit
-  pub seconds : length js.seconds ≡ adaptor_limit
-  pub ratios : length js.ratios ≡ adaptor_limit
+-- and its rows after set-up
+pub record Layable (r : Record) (prepared : List Prepared) (slots : List ℕ) : Type 0 where
+  pub seated : Seated r slots
+  pub ratio : (j : ℕ) → j < r.count → (get_or prepared j nothing).ratio ≡ ratio_at r j

@@ -1,6 +1,7 @@
 -- A run over raw bytes: their whole samples, three bytes each, as many as the room has places for, with outputs of four bytes.
 use Rattle.std.specs.Prelude.{ℕ, ◌*◌, ◌/◌, ◌≡◌, cond, List, ◌++◌, eqb, length, take, drop, ℤ}
-use Rattle.circuit.specs.Numbers.{Report, handed, judge}
+use Rattle.circuit.specs.Numbers.{Report, judge, handed}
+use Rattle.circuit.specs.Promises.{shown_segment}
 use Rattle.circuit.specs.Run.{Played, play, Charged, charged_rules, no_segment, last_or, report_after}
 use Rattle.circuit.specs.Take.{output_length, samples_of, output_bytes}
 use Rattle.circuit.specs.declared.Progress.{Progress}
@@ -18,12 +19,13 @@ raw_call r waves bytes room = record { circuit = r; waves = waves; bytes = bytes
 abbrev pub raw_charged : RawCall → Charged
 raw_charged c = record { circuit = c.circuit; waves = c.waves }
 
--- the samples that are whole and that there is room for
-abbrev pub fitting : List ℕ → List ℕ → List ℤ
-fitting bytes room = take (length room / output_length) (samples_of bytes)
+-- the whole samples, but no more than so many
+abbrev pub fitting : ℕ → List ℕ → List ℤ
+fitting most bytes = take most (samples_of bytes)
 
+-- those that there is room for
 abbrev pub raw_input : RawCall → List ℤ
-raw_input c = fitting c.bytes c.room
+raw_input c = fitting (length c.room / output_length) c.bytes
 
 pub record RanRaw : Type 0 where
   pub handed_back : Report
@@ -53,6 +55,6 @@ ran_raw c =
 pub record RunsRaw (c : RawCall) (p : Progress) (after : List ℕ) : Type 0 where
   pub number : handed p.answer ≡ (ran_raw c).handed_back
   pub samples : p.done ≡ (ran_raw c).samples
-  pub segment : p.segment ≡ (ran_raw c).segment
+  pub segment : p.segment ≡ shown_segment (ran_raw c).segment
   pub waves : p.state.waves ≡ (ran_raw c).waves
   pub room : after ≡ (ran_raw c).room

@@ -1,22 +1,26 @@
 -- One sample over a plan: what the leaves' slots hold, what the plan has to be, and what a sample comes to.
-use Rattle.std.specs.Prelude.{ℕ, ◌*◌, ◌^◌, ◌<◌, ◌≤◌, ◌≡◌, ◌⊎◌, Bool, true, false, not, ◌||◌, List, ℤ, pos, negsuc, ◌+ℤ◌, neg_ℤ, length, get_or}
+use Rattle.std.specs.Prelude.{ℕ, ◌*◌, ◌^◌, ◌<◌, ◌≤◌, ◌≡◌, ◌⊎◌, Bool, true, false, not, ◌||◌, List, ℤ, pos, negsuc, ◌+ℤ◌, neg_ℤ, length, Result, Ok, Err}
 use Rattle.whole.specs.Order.{Abs}
 use Rattle.circuit.specs.Counting.{within, some}
 use Rattle.circuit.specs.Numbers.{done}
 use Rattle.circuit.specs.Record.{part_at, reversed_at, is_leaf, is_input, row_limit, adaptors_of}
 use Rattle.circuit.specs.Curve.{wave_limit}
-use Rattle.circuit.specs.SetUp.{nothing, prepared_rows, set_up_report}
+use Rattle.circuit.specs.SetUp.{prepared_rows, set_up_report}
 use Rattle.circuit.specs.Sample.{rounding_of, rounded, raised, sampled, refused, finished, stored_at}
 use Rattle.circuit.specs.Run.{sound_wave}
+use Rattle.circuit.specs.declared.Prepared.{Prepared}
 use Rattle.circuit.specs.declared.Record.{Record}
-use Rattle.laws.specs.Accepted.{Sized, Accepted}
-use Rattle.parts.specs.Parts.{turn_of, mirror_of}
-use Rattle.engine.specs.declared.plan.Shape.{Shape}
-use Rattle.engine.specs.declared.sample.Outcome.{Outcome}
-use Rattle.engine.specs.declared.sample.Outcome.TheVariants.{Loud, Over, Finished}
+use Rattle.circuit.specs.declared.Refusal.{Refusal}
+use Rattle.circuit.specs.declared.Refusal.TheVariants.{Sample, Overload}
+use Rattle.laws.specs.Accepted.{Sized}
+use Rattle.parts.specs.Parts.{turn_of}
+use Rattle.engine.specs.declared.plan.Plan.{Plan}
+use Rattle.engine.specs.declared.sample.Finished.{Finished}
+use Rattle.engine.specs.declared.sample.Fault.{Fault}
+use Rattle.engine.specs.declared.sample.Fault.TheVariants.{Loud, Over}
 use Rattle.engine.specs.Wave.{way}
 use Rattle.engine.specs.Curve.{Drawing}
-use Rattle.engine.specs.Plan.{floor, slot_of, reactives, Slotted, Staged, tap_row, meter_in, Plan}
+use Rattle.engine.specs.Plan.{floor, slot_of, reactives, Staged, tap_row, meter_in, Seated}
 use Rattle.engine.specs.Sweep.{Modest}
 
 -- ---- the leaves' limits
@@ -68,43 +72,41 @@ pub record Port (ups ds : List ℤ) (s : ℕ) : Type 0 where
   pub sent : Abs (stored_at ups s) wave_limit
   pub arriving : Abs (stored_at ds s) wave_limit
 
-pub record Settles (shape : Shape) (turns ups ds : List ℤ) : Type 0 where
-  pub few : shape.adaptors ≤ floor
-  pub meter : Turn shape.meter
+pub record Settles (p : Plan) (ups ds : List ℤ) : Type 0 where
+  pub few : p.adaptors ≤ floor
+  pub meter : Turn p.meter
   pub modest : Modest ds
   -- where no leaf is over its limit
-  pub port : leaf_over shape.adaptors ds ≡ false → Port ups ds shape.tap
-  pub restores : leaf_over shape.adaptors ds ≡ false → Restores turns shape.reactive ups ds
+  pub port : leaf_over p.adaptors ds ≡ false → Port ups ds p.tap
+  pub restores : leaf_over p.adaptors ds ≡ false → Restores p.turns p.reactive ups ds
 
 -- the waves are as they were, or the tap's two are put out, with the segment, and the reactive leaves' kept
-unfoldable pub Settled : Shape → List ℤ → ℕ → List ℤ → List ℤ → Outcome → List ℤ → Type 0
-Settled shape turns segment ups ds Loud after = ⊥
-Settled shape turns segment ups ds Over after = (leaf_over shape.adaptors ds ≡ true) × (after ≡ ups)
-Settled shape turns segment ups ds (Finished v used) after =
-    (leaf_over shape.adaptors ds ≡ false) × (v.0 ≡ turned_by shape.meter (stored_at ups shape.tap +ℤ stored_at ds shape.tap)) × (used ≡ segment)
-    × Restored turns ds shape.reactive ups after
+unfoldable pub Settled : Plan → ℕ → List ℤ → List ℤ → Result Finished Fault → List ℤ → Type 0
+Settled p segment ups ds (Err Loud) after = ⊥
+Settled p segment ups ds (Err Over) after = (leaf_over p.adaptors ds ≡ true) × (after ≡ ups)
+Settled p segment ups ds (Ok f) after =
+    (leaf_over p.adaptors ds ≡ false) × (f.output.0 ≡ turned_by p.meter (stored_at ups p.tap +ℤ stored_at ds p.tap)) × (f.segment ≡ segment)
+    × Restored p.turns ds p.reactive ups after
 
 -- ---- what is laid out for a run, and what changes from sample to sample
 
 -- the plan of a record
 pub record Fixed (p : Plan) (r : Record) : Type 0 where
-  pub accepted : Accepted r
-  pub slotted : Slotted r
-  pub rounds : rounding_of r.version ≡ way p.shape.inward
-  pub adaptors : p.shape.adaptors ≡ adaptors_of r
-  pub reactive : p.shape.reactive ≡ reactives r
-  pub tap : p.shape.tap ≡ slot_of r (tap_row r)
-  pub meter : p.shape.meter ≡ meter_in r.rows r.tap
-  pub mirror : p.shape.mirror ≡ mirror_of r.kind
+  pub seated : Seated r p.slots
+  pub rounds : rounding_of r.version ≡ way p.inward
+  pub adaptors : p.adaptors ≡ adaptors_of r
+  pub reactive : p.reactive ≡ reactives r
+  pub tap : p.tap ≡ slot_of r (tap_row r)
+  pub meter : p.meter ≡ meter_in r.rows r.tap
   pub staged : Staged r p.joints
   pub turn : (j : ℕ) → j < r.count → stored_at p.turns (slot_of r j) ≡ turn_of (part_at r j) (reversed_at r j)
-  pub drawn : Drawing r p.shape.width p.lines
+  pub drawn : Drawing r p.curve
 
--- the rows' ratios after set-up, of a record that it does not refuse
-pub record Ready (r : Record) (ratios : List ℕ) : Type 0 where
+-- the rows after set-up, of a record that it does not refuse
+pub record Ready (r : Record) (prepared : List Prepared) : Type 0 where
   pub sized : Sized r
   pub set_up : set_up_report r ≡ done
-  pub prepared : (j : ℕ) → j < row_limit → get_or ratios j 0 ≡ (get_or (prepared_rows r) j nothing).ratio
+  pub rows : prepared ≡ prepared_rows r
 
 -- the stored waves ws pass rule 12, and every leaf but the input has in its slot what goes up from it next
 pub record Loaded (r : Record) (ws ups : List ℤ) : Type 0 where
@@ -124,11 +126,16 @@ pub record LaidOut (p : Plan) (ups ds : List ℤ) : Type 0 where
 
 -- ---- what a sample comes to
 
-unfoldable pub Works : Record → List ℤ → ℤ → Outcome → List ℤ → Type 0
-Works r ws x Loud ups = (sampled r ws x ≡ refused 14) × Loaded r ws ups
-Works r ws x Over ups = (sampled r ws x ≡ refused 15) × Loaded r ws ups
-Works r ws x (Finished v used) ups = (next : List ℤ) × (sampled r ws x ≡ finished v.0 used next) × Loaded r next ups
+-- of sample i
+abbrev pub refusal_at : Fault → ℕ → Refusal
+refusal_at Loud i = Sample i
+refusal_at Over i = Overload i
 
-pub record Samples (p : Plan) (ups : List ℤ) (x : ℤ) (o : Outcome) (after ds : List ℤ) : Type 0 where
+unfoldable pub Works : Record → List ℤ → ℤ → Result Finished Fault → List ℤ → Type 0
+Works r ws x (Err Loud) ups = (sampled r ws x ≡ refused 14) × Loaded r ws ups
+Works r ws x (Err Over) ups = (sampled r ws x ≡ refused 15) × Loaded r ws ups
+Works r ws x (Ok f) ups = (next : List ℤ) × (sampled r ws x ≡ finished f.output.0 f.segment next) × Loaded r next ups
+
+pub record Samples (p : Plan) (ups : List ℤ) (x : ℤ) (o : Result Finished Fault) (after ds : List ℤ) : Type 0 where
   pub works : (r : Record) (ws : List ℤ) → Fixed p r → Loaded r ws ups → Works r ws x o after
   pub room : Modest ds

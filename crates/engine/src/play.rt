@@ -1,197 +1,129 @@
 // The samples of a run, in order: the plan is laid out once, and each sample starts from the waves that the one before it stored.
-ghost use Rattle.std.specs.Prelude.{◌≡◌, List, ◌<◌, ℤ, length, set};
+ghost use Rattle.std.specs.Prelude.{◌≡◌, ◌*◌, ◌≤◌, List, ℤ, length};
 ghost use Rattle.circuit.specs.Numbers.{passes};
-ghost use Rattle.circuit.specs.Run.{fresh_waves, stored_waves_rule, call};
-ghost use Rattle.circuit.specs.Promises.{Runs};
-ghost use Rattle.circuit.specs.declared.Record.{Record};
-ghost use Rattle.sheet.specs.Sheet.{rows_in, columns_in, record_in};
-ghost use Rattle.engine.specs.Plan.{joints_of, plan_of, Seated};
+ghost use Rattle.circuit.specs.Run.{fresh_waves, stored_waves_rule, play};
+ghost use Rattle.engine.specs.Wave.{way};
+ghost use Rattle.engine.specs.Plan.{Seated};
 ghost use Rattle.engine.specs.Sample.{Loaded, LaidOut};
-ghost use Rattle.engine.specs.Play.{Plays, Playable};
+ghost use Rattle.engine.specs.Play.{Plays, Playable, Comes};
 
-use crate::curve::{LINES, Line};
-use crate::plan::{JOINTS, Shape, lay_out, part_at, reversed_at, wide};
-use crate::sample::{Outcome, sample, turned};
-use crate::slot::slot_at;
-use circuit::{Answer, Doubled, NO_SEGMENT, Progress, ROWS, State, Wave};
+use crate::curve::{LINES, NO_LINE};
+use crate::plan::{Plan, lay_out, slot_at};
+use crate::sample::{sample, turned};
+use crate::tape::{Samples, Written};
+use crate::wave::{Down, Rounds, TowardZero};
+use circuit::{Prepared, Progress, ROWS, Record, Refusal, State, Wave};
 use parts::{facing, part_sends, part_taken};
-use sheet::{Cells, Coordinates, Heading, Microvolts, Values};
 
 // What goes up from each row with its stored wave, in its slot; the input's slot waits for a sample.
-pub(crate) fn load(
-    count: usize,
-    cells: &Cells,
-    microvolts: &Microvolts,
-    values: &Values,
-    slots: &[u8; ROWS],
-    state: State,
-) -> [i64; ROWS]
-    requires { (r : Record) × Seated (rows_in cells.now microvolts.now values.now) count slots.now r }
-    ensures { (r : Record) → Seated (rows_in cells.now microvolts.now values.now) count slots.now r → stored_waves_rule r state.waves ≡ passes
-        → Loaded r state.waves result }
+pub(crate) fn load(r: &Record, slots: &[u8; ROWS], state: &State) -> [i64; ROWS]
+    requires { Seated r.now slots.now }
+    ensures { stored_waves_rule r.now state.now.waves ≡ passes → Loaded r.now state.now.waves result }
 {
     let mut up = [0i64; ROWS];
-    for i in 0..count {
-        let part = part_at(cells, microvolts, values, i);
-        let sent = part_sends(part, state.waves[i]);
-        let next = turned(facing(reversed_at(cells, i)), sent as i64);
-        let s = slot_at(slots, i);
-        up[s] = next;
+    for i in 0..r.count as usize {
+        let row = r.row(i);
+        let sent = part_sends(row.part, state.waves[i]);
+        up[slot_at(slots, i)] = turned(facing(row.reversed), sent as i64);
     }
     up
 }
 
 // The stored waves, out of what goes up from the rows next.
-pub(crate) fn unload(
-    count: usize,
-    cells: &Cells,
-    microvolts: &Microvolts,
-    values: &Values,
-    slots: &[u8; ROWS],
-    up: [i64; ROWS],
-) -> State
-    requires { (r : Record) × (ws : List ℤ) × Seated (rows_in cells.now microvolts.now values.now) count slots.now r × Loaded r ws up }
-    ensures { (r : Record) (ws : List ℤ) → Seated (rows_in cells.now microvolts.now values.now) count slots.now r → Loaded r ws up
-        → result.waves ≡ ws }
+pub(crate) fn unload(r: &Record, slots: &[u8; ROWS], up: &[i64; ROWS]) -> State
+    requires { Seated r.now slots.now × ((ws : List ℤ) × Loaded r.now ws up.now) }
+    ensures { (ws : List ℤ) → Loaded r.now ws up.now → result.waves ≡ ws }
 {
     let mut state = State {
         waves: [0i32; ROWS],
     };
-    for i in 0..count {
-        let part = part_at(cells, microvolts, values, i);
-        let s = slot_at(slots, i);
-        let taken = part_taken(part, Wave(up[s]));
-        let stored = turned(facing(reversed_at(cells, i)), taken.0) as i32;
-        state.waves[i] = stored;
+    for i in 0..r.count as usize {
+        let row = r.row(i);
+        let taken = part_taken(row.part, Wave(up[slot_at(slots, i)]));
+        state.waves[i] = turned(facing(row.reversed), taken.0) as i32;
     }
     state
-}
-
-// The output of sample i.
-fn put(output: &mut [i32], i: usize, v: Doubled)
-    requires { i < length output.old }
-    ensures { output.new ≡ set output.old i v.0 }
-{
-    let doubled = v.0;
-    output[i] = doubled;
 }
 
 // How many samples are done, the segment of the last of them, and why no more are done.
 #[derive(Clone, Copy)]
 pub(crate) struct Stop {
-    pub answer: Answer,
+    pub answer: Result<(), Refusal>,
     pub done: usize,
-    pub segment: u8,
+    pub segment: Option<u8>,
 }
 
-fn samples(
-    shape: Shape,
-    joins: &[u8; JOINTS],
-    firsts: &[u8; JOINTS],
-    seconds: &[u8; JOINTS],
-    ratios: &[i64; JOINTS],
-    turns: &[i64; ROWS],
-    lines: &[Line; LINES],
+fn rounded_samples<R: Rounds, S: Samples, W: Written>(
+    plan: &Plan,
     up: &mut [i64; ROWS],
-    input: &[i32],
-    output: &mut [i32],
+    input: &S,
+    out: &mut [W],
 ) -> Stop
-    requires { LaidOut (plan_of shape (joints_of joins.now firsts.now seconds.now ratios.now) turns.now lines.now) up.old fresh_waves
-        × (length input.now ≡ length output.old) }
-    ensures { Plays (λ vs. vs)
-        (plan_of shape (joints_of joins.now firsts.now seconds.now ratios.now) turns.now
-        lines.now)
-        up.old input.now output.old result up.new output.new }
+    requires { LaidOut plan.now up.old fresh_waves × (W.width * length (S.samples input.now) ≤ length out.old) × (R.rounding ≡ way plan.now.inward) }
+    ensures { Plays W.shown plan.now up.old (S.samples input.now) out.old result up.new out.new }
 {
+    let count = input.count();
     let mut down = [0i64; ROWS];
-    let mut i: usize = 0;
-    let mut segment = NO_SEGMENT;
-    while i < input.len() {
-        let x = input[i];
-        let outcome = sample(
-            shape, joins, firsts, seconds, ratios, turns, lines, up, &mut down, x,
-        );
-        match outcome {
-            Outcome::Loud => {
+    let mut segment = None;
+    for i in 0..count {
+        match sample::<R>(plan, up, &mut down, input.sample(i)) {
+            Ok(finished) => {
+                W::put(out, i, finished.output);
+                segment = Some(finished.segment);
+            }
+            Err(fault) => {
                 return Stop {
-                    answer: Answer::Sample(i),
+                    answer: Err(fault.at(i)),
                     done: i,
                     segment,
                 };
-            }
-            Outcome::Over => {
-                return Stop {
-                    answer: Answer::Overload(i),
-                    done: i,
-                    segment,
-                };
-            }
-            Outcome::Finished(v, used) => {
-                put(output, i, v);
-                segment = used;
             }
         }
-        i += 1;
     }
     Stop {
-        answer: Answer::Done,
-        done: i,
+        answer: Ok(()),
+        done: count,
         segment,
     }
 }
 
-// A call that 3 to 13 do not refuse; `prepared` are the rows' ratios after set-up.
-pub(crate) fn play(
-    h: Heading,
-    cells: &Cells,
-    microvolts: &Microvolts,
-    values: &Values,
-    xs: &Coordinates,
-    ys: &Coordinates,
-    prepared: &[u32; ROWS],
-    state: State,
-    input: &[i32],
-    output: &mut [i32],
-) -> Progress
-    requires { Playable (record_in h (rows_in cells.now microvolts.now values.now) (columns_in xs.now ys.now)) prepared.now
-        state.waves × (length input.now ≡ length output.old) }
-    ensures { Runs (call (record_in h (rows_in cells.now microvolts.now values.now)
-        (columns_in xs.now ys.now)) state.waves input.now output.old) result output.new }
+// The same, whichever way the plan rounds.
+fn samples<S: Samples, W: Written>(
+    plan: &Plan,
+    up: &mut [i64; ROWS],
+    input: &S,
+    out: &mut [W],
+) -> Stop
+    requires { LaidOut plan.now up.old fresh_waves × (W.width * length (S.samples input.now) ≤ length out.old) }
+    ensures { Plays W.shown plan.now up.old (S.samples input.now) out.old result up.new out.new }
 {
-    let count = wide(h.count);
-    let mut slots = [0u8; ROWS];
-    let mut joins = [0u8; JOINTS];
-    let mut firsts = [0u8; JOINTS];
-    let mut seconds = [0u8; JOINTS];
-    let mut ratios = [0i64; JOINTS];
-    let mut turns = [0i64; ROWS];
-    let mut lines = [[0i64; 4]; LINES];
-    let shape = lay_out(
-        h,
-        cells,
-        microvolts,
-        values,
-        xs,
-        ys,
-        prepared,
-        &mut slots,
-        &mut joins,
-        &mut firsts,
-        &mut seconds,
-        &mut ratios,
-        &mut turns,
-        &mut lines,
-    );
-    let mut up = load(count, cells, microvolts, values, &slots, state);
-    let stop = samples(
-        shape, &joins, &firsts, &seconds, &ratios, &turns, &lines, &mut up, input, output,
-    );
-    let answer = stop.answer;
-    let after = unload(count, cells, microvolts, values, &slots, up);
+    if plan.inward {
+        rounded_samples::<TowardZero, S, W>(plan, up, input, out)
+    } else {
+        rounded_samples::<Down, S, W>(plan, up, input, out)
+    }
+}
+
+// A call whose record, waves and lengths are not refused; `prepared` are the rows after set-up. That there is room for every output is asked at
+// each step down to the samples: slices carry no such fact.
+pub(crate) fn play<S: Samples, W: Written>(
+    r: &Record,
+    prepared: &[Prepared; ROWS],
+    state: &State,
+    input: &S,
+    out: &mut [W],
+) -> Progress
+    requires { Playable r.now prepared.now state.now.waves × (W.width * length (S.samples input.now) ≤ length out.old) }
+    ensures { Comes W.shown (play r.now state.now.waves (S.samples input.now)) out.old result out.new }
+{
+    let mut lines = [NO_LINE; LINES];
+    let plan = lay_out(r, prepared, &mut lines);
+    let mut up = load(r, &plan.slots, state);
+    let stop = samples(&plan, &mut up, input, out);
     Progress {
-        answer,
+        answer: stop.answer,
         done: stop.done,
         segment: stop.segment,
-        state: after,
+        state: unload(r, &plan.slots, &up),
     }
 }

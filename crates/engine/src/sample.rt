@@ -1,20 +1,21 @@
 // One sample: up the adaptors, off the diode, down the adaptors; then the limits, what the tap reads and what the leaves keep.
 ghost use Rattle.std.specs.Prelude.{◌≡◌, false, ℕ, suc, ◌<◌, ◌≤◌, ◌+ℤ◌};
+ghost use Rattle.std.specs.List.{list_any, range_with_len};
 ghost use Rattle.whole.specs.Order.{Abs};
 ghost use Rattle.circuit.specs.Counting.{some};
 ghost use Rattle.circuit.specs.Curve.{wave_limit};
 ghost use Rattle.circuit.specs.Sample.{stored_at};
 ghost use Rattle.laws.specs.Accepted.{adaptor_limit};
-ghost use Rattle.engine.specs.Wave.{down_limit};
-ghost use Rattle.engine.specs.Plan.{floor, joints_of, plan_of};
+ghost use Rattle.engine.specs.Wave.{down_limit, way};
+ghost use Rattle.engine.specs.Plan.{floor};
 ghost use Rattle.engine.specs.Sweep.{Modest};
-ghost use Rattle.engine.specs.Sample.{over_at, leaf_over, Calm, Turn, turned_by, turn_limit, Restored, Restores, Settles, Settled, LaidOut, Samples};
+ghost use Rattle.engine.specs.Sample.{over_at, leaf_over, Calm, Turn, turned_by, turn_limit, Restored, Restores, Settles, Settled, LaidOut, Samples, refusal_at};
 
-use crate::curve::{LINES, Line, reflect};
-use crate::plan::{FLOOR, JOINTS, Shape};
+use crate::plan::{FLOOR, Plan};
 use crate::slot::wave_at;
 use crate::sweep::{sweep_down, sweep_up};
-use circuit::{Doubled, ROWS, WAVE_LIMIT, Wave, in_source_limit};
+use crate::wave::Rounds;
+use circuit::{Doubled, ROWS, Refusal, WAVE_LIMIT, Wave, in_source_limit};
 
 // What is gathered so far, and one wave more, with its limit of 2^26 added. Of a wave over the limit that sum is negative or past 2^27, and leaves a
 // bit from 2^27 on.
@@ -31,6 +32,7 @@ fn may_be_over(first: i64, n: usize, down: &[i64; ROWS]) -> bool
     requires { (n ≤ suc floor) × Modest down.now }
     ensures { result ≡ false → Calm first × ((s : ℕ) → s < n → Abs (stored_at down.now s) wave_limit) }
 {
+    // by slots, since what is known of a wave is known by its slot
     let mut all = first;
     for s in 0..n {
         all = gathered(all, down[s]);
@@ -41,14 +43,9 @@ fn may_be_over(first: i64, n: usize, down: &[i64; ROWS]) -> bool
 // Rule 15, of the waves that arrive at the first `n` slots.
 fn any_over(n: usize, down: &[i64; ROWS]) -> bool
     requires { n ≤ floor }
-    ensures { result ≡ some (over_at down.now) n }
+    ensures { result ≡ list_any (over_at down.now) (range_with_len 0 n) }
 {
-    for s in 0..n {
-        if !Wave(down[s]).in_limit() {
-            return true;
-        }
-    }
-    false
+    (0..n).any(|s| !Wave(down[s]).in_limit())
 }
 
 // Rule 15, of the waves that arrive at the leaves: `n` of them are no input. All are looked at together first; where there are many, so are the slots
@@ -96,64 +93,74 @@ fn tapped(meter: i64, up: Wave, down: Wave) -> Doubled
     Doubled(turned(meter, up.0 + down.0) as i32)
 }
 
-// What a sample comes to: it is refused with 14 or 15, or it has an output and the segment that the diode used.
+// What a finished sample comes to: its output, and the segment that the diode used.
 #[derive(Clone, Copy)]
-pub(crate) enum Outcome {
+pub(crate) struct Finished {
+    pub output: Doubled,
+    pub segment: u8,
+}
+
+// Why a sample is refused: it is past its own limit, with 14, or a wave is, with 15.
+#[derive(Clone, Copy)]
+pub(crate) enum Fault {
     Loud,
     Over,
-    Finished(Doubled, u8),
+}
+
+impl Fault {
+    // What is handed back where it is sample i.
+    pub fn at(self, i: usize) -> Refusal
+        ensures { result ≡ refusal_at self i }
+    {
+        match self {
+            Fault::Loud => Refusal::Sample(i),
+            Fault::Over => Refusal::Overload(i),
+        }
+    }
 }
 
 // The end of a sample. Rule 15 at the leaves comes before anything is stored, and the tap reads what its row has sent, not what it sends next.
+// Both ways to round end so, and with a call of it each sample would be slower.
+#[inline(always)]
 fn settle(
-    shape: Shape,
-    turns: &[i64; ROWS],
+    plan: &Plan,
     segment: u8,
     up: &mut [i64; ROWS],
     down: &[i64; ROWS],
-) -> Outcome
-    requires { Settles shape turns.now up.old down.now }
-    ensures { Settled shape turns.now segment up.old down.now result up.new }
+) -> Result<Finished, Fault>
+    requires { Settles plan.now up.old down.now }
+    ensures { Settled plan.now segment up.old down.now result up.new }
 {
-    if leaf_over(shape.adaptors, down) {
-        return Outcome::Over;
+    if leaf_over(plan.adaptors, down) {
+        return Err(Fault::Over);
     }
-    let tap = shape.tap;
-    let output = tapped(shape.meter, wave_at(up, tap), wave_at(down, tap));
-    store(turns, shape.reactive, down, up);
-    Outcome::Finished(output, segment)
+    let output = tapped(plan.meter, wave_at(up, plan.tap), wave_at(down, plan.tap));
+    store(&plan.turns, plan.reactive, down, up);
+    Ok(Finished { output, segment })
 }
 
 // Between samples `up` holds what every leaf but the input sends next; a refused sample keeps that. `down` is room for the sweep down.
-pub(crate) fn sample(
-    shape: Shape,
-    joins: &[u8; JOINTS],
-    firsts: &[u8; JOINTS],
-    seconds: &[u8; JOINTS],
-    ratios: &[i64; JOINTS],
-    turns: &[i64; ROWS],
-    lines: &[Line; LINES],
+pub(crate) fn sample<R: Rounds>(
+    plan: &Plan,
     up: &mut [i64; ROWS],
     down: &mut [i64; ROWS],
     x: i32,
-) -> Outcome
-    requires { LaidOut (plan_of shape (joints_of joins.now firsts.now seconds.now ratios.now) turns.now lines.now) up.old down.old }
-    ensures { Samples (plan_of shape (joints_of joins.now firsts.now seconds.now ratios.now) turns.now lines.now) up.old x result up.new down.new }
+) -> Result<Finished, Fault>
+    requires { LaidOut plan.now up.old down.old × (R.rounding ≡ way plan.now.inward) }
+    ensures { Samples plan.now up.old x result up.new down.new }
 {
     if !in_source_limit(x) {
-        return Outcome::Loud;
+        return Err(Fault::Loud);
     }
-    let n = shape.adaptors;
-    up[FLOOR] = turned(turns[FLOOR], x as i64);
-    sweep_up(shape.inward, joins, firsts, seconds, ratios, n, up);
-    let high = up[FLOOR + n];
-    let risen = Wave(high);
+    let n = plan.adaptors;
+    up[FLOOR] = turned(plan.turns[FLOOR], x as i64);
+    sweep_up::<R>(plan, up);
+    let risen = Wave(up[FLOOR + n]);
     if !risen.in_limit() {
-        return Outcome::Over;
+        return Err(Fault::Over);
     }
-    let answer = reflect(shape.mirror, shape.width, lines, risen);
-    let top = answer.wave.0;
-    down[FLOOR + n] = top;
-    sweep_down(shape.inward, joins, firsts, seconds, ratios, n, up, down);
-    settle(shape, turns, answer.segment, up, down)
+    let answer = plan.curve.reflect(risen);
+    down[FLOOR + n] = answer.wave.0;
+    sweep_down::<R>(plan, up, down);
+    settle(plan, answer.segment, up, down)
 }

@@ -1,32 +1,35 @@
 // The sweeps: waves up from the lowest adaptor to the top, and down again. Adaptor k has its wave at slot FLOOR + 1 + k.
-ghost use Rattle.std.specs.Prelude.{suc, ◌+◌};
-ghost use Rattle.engine.specs.Plan.{floor, joints_of};
+ghost use Rattle.std.specs.Prelude.{◌≡◌, ◌<◌, suc, ◌+◌};
+ghost use Rattle.laws.specs.Accepted.{adaptor_limit};
+ghost use Rattle.engine.specs.Wave.{way};
+ghost use Rattle.engine.specs.Plan.{floor, joint_in};
 ghost use Rattle.engine.specs.Sweep.{Climbs, Risen, Drops, Reached};
 
-use crate::plan::{FLOOR, JOINTS};
-use crate::slot::{child_at, join_at, put_wave, ratio_at, wave_at};
-use crate::wave::{sends_down, sends_up};
+use crate::plan::{FLOOR, Joint, Plan};
+use crate::slot::{put_wave, wave_at};
+use crate::wave::{Rounds, sends_down, sends_up};
 use circuit::ROWS;
 
-pub(crate) fn sweep_up(
-    inward: bool,
-    joins: &[u8; JOINTS],
-    firsts: &[u8; JOINTS],
-    seconds: &[u8; JOINTS],
-    ratios: &[i64; JOINTS],
-    n: usize,
-    up: &mut [i64; ROWS],
-)
-    requires { Climbs inward (joints_of joins.now firsts.now seconds.now ratios.now) n up.old }
-    ensures { (c : Climbs inward (joints_of joins.now firsts.now seconds.now ratios.now) n up.old) → Risen c.swept.circuit c.swept.wave (suc floor + n) up.new }
+// Adaptor k.
+fn joint_at(plan: &Plan, k: usize) -> Joint
+    requires { k < adaptor_limit }
+    ensures { result ≡ joint_in plan.now.joints k }
 {
-    for k in 0..n {
-        let first = child_at(firsts, k);
-        let second = child_at(seconds, k);
-        let sent = sends_up(
-            inward,
-            join_at(joins, k),
-            ratio_at(ratios, k),
+    plan.joints[k]
+}
+
+// The way to round is a type here and a flag of the plan, and whoever sweeps has chosen the type by the flag.
+pub(crate) fn sweep_up<R: Rounds>(plan: &Plan, up: &mut [i64; ROWS])
+    requires { Climbs plan.now up.old × (R.rounding ≡ way plan.now.inward) }
+    ensures { (c : Climbs plan.now up.old) → Risen c.swept.circuit c.swept.wave (suc floor + plan.now.adaptors) up.new }
+{
+    for k in 0..plan.adaptors {
+        let joint = joint_at(plan, k);
+        let first = joint.first as usize;
+        let second = joint.second as usize;
+        let sent = sends_up::<R>(
+            joint.join,
+            joint.ratio,
             wave_at(up, first),
             wave_at(up, second),
         );
@@ -34,29 +37,19 @@ pub(crate) fn sweep_up(
     }
 }
 
-// `down` holds the wave that reaches the top, in the top's slot. The loop counts by slots, not by places, since that makes it quicker.
-pub(crate) fn sweep_down(
-    inward: bool,
-    joins: &[u8; JOINTS],
-    firsts: &[u8; JOINTS],
-    seconds: &[u8; JOINTS],
-    ratios: &[i64; JOINTS],
-    n: usize,
-    up: &[i64; ROWS],
-    down: &mut [i64; ROWS],
-)
-    requires { Drops inward (joints_of joins.now firsts.now seconds.now ratios.now) n up.now down.old }
-    ensures { (c : Drops inward (joints_of joins.now firsts.now seconds.now ratios.now) n up.now down.old) → Reached c.swept.circuit c.swept.wave down.old down.new }
+// `down` holds the wave that reaches the top, in the top's slot.
+pub(crate) fn sweep_down<R: Rounds>(plan: &Plan, up: &[i64; ROWS], down: &mut [i64; ROWS])
+    requires { Drops plan.now up.now down.old × (R.rounding ≡ way plan.now.inward) }
+    ensures { (c : Drops plan.now up.now down.old) → Reached c.swept.circuit c.swept.wave down.old down.new }
 {
-    let mut slot = FLOOR + n;
-    while FLOOR < slot {
-        let k = slot - FLOOR - 1;
-        let first = child_at(firsts, k);
-        let second = child_at(seconds, k);
-        let b = sends_down(
-            inward,
-            join_at(joins, k),
-            ratio_at(ratios, k),
+    for k in (0..plan.adaptors).rev() {
+        let joint = joint_at(plan, k);
+        let first = joint.first as usize;
+        let second = joint.second as usize;
+        let slot = FLOOR + 1 + k;
+        let b = sends_down::<R>(
+            joint.join,
+            joint.ratio,
             wave_at(up, first),
             wave_at(up, second),
             wave_at(up, slot),
@@ -64,6 +57,5 @@ pub(crate) fn sweep_down(
         );
         put_wave(down, first, b.first);
         put_wave(down, second, b.second);
-        slot -= 1;
     }
 }

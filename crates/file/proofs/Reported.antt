@@ -5,23 +5,17 @@ use native.Mathlib.Decide.{ℕ_discrete}
 use native.Mathlib.Omega.{arith}
 use borrow.Author.Tests.{eq-eqb, ne_eqb}
 use mathlib.Core.List.{List}
-use lib.ListN.{length, replicate}
-use Rattle.circuit.specs.Numbers.{handed, report, done, judge, unless}
-use Rattle.circuit.specs.Record.{row_limit, version_rule}
-use Rattle.circuit.specs.SetUp.{nothing, circuit_rules, set_up_rules, set_up_report, set_up_rows}
-use Rattle.circuit.specs.File.{file_length, file_of, record_of, no_record, file_length_rule, file_rules, read_rules, read_report, read_record, WriteCall, write_rules, write_report, buffer_after}
-use Rattle.circuit.specs.Promises.{Opens, Writes}
-use Rattle.circuit.specs.declared.Answer.{Answer}
-use Rattle.circuit.specs.declared.Opened.{Opened}
+use lib.ListN.{length}
+use Rattle.circuit.specs.Numbers.{Report, report, done, judge, unless, told}
+use Rattle.circuit.specs.SetUp.{circuit_rules, set_up_rules, set_up_report}
+use Rattle.circuit.specs.File.{file_length, file_of, record_of, file_length_rule, file_rules, read_rules, read_report, read_record, WriteCall, write_rules, write_report, buffer_after}
+use Rattle.circuit.specs.declared.Refusal.{Refusal}
+use Rattle.circuit.specs.declared.Record.{Record}
 use Rattle.laws.proofs.Judging.{judge_pass, judge_fail, judge_rest, judge_stop, judge_of, zero_pass, version_passed}
+use Rattle.laws.proofs.Trying.{told_above}
 use Rattle.blocks.proofs.Judged.{file_numbered}
 
 -- ---- reading
-
--- the record of zeros is refused, for its version
-none_prepared : set_up_rows no_record ≡ replicate row_limit nothing
-unfolding set_up_rows set_up_report set_up_rules judge version_rule no_record
-none_prepared = refl
 
 module _ (s : List ℕ) where
   -- the bytes are refused
@@ -40,19 +34,17 @@ module _ (s : List ℕ) where
   unfolding read_record
   record_read e = rw (eq-eqb _ _ e)
 
-  -- what an opening is, by its number
-  pub opens_record : (got : Opened) → handed got.answer ≡ read_report s → (handed got.answer).number ≡ 0 → got.«record» ≡ record_of s
-      → got.rows ≡ set_up_rows got.«record» → Opens s got
-  opens_record got e z f w =
-      let same = f ∙ sym (record_read (ap (λ m. m.number) (sym e) ∙ z)) in
-      record { number = e; circuit = same; rows = w ∙ ap set_up_rows same }
+  -- a refusal of the bytes is one of the file
+  pub bytes_refused : (e : Refusal) → told e ≡ judge file_rules s → told e ≡ read_report s
+  bytes_refused e f = f ∙ sym (read_stop (λ z. let above = told_above e in let same = ap (λ (m : Report). m.number) f in omega arith))
 
-  pub opens_nothing : (got : Opened) (a : Answer) → (got.answer ≡ a) × (got.«record» ≡ no_record) × (got.rows ≡ replicate row_limit nothing)
-      → handed a ≡ read_report s → ((handed a).number ≡ 0 → ⊥) → Opens s got
-  unfolding read_record
-  opens_nothing got a f e h =
-      let none : read_record s ≡ no_record = rw (ne_eqb _ _ (λ z. h (ap (λ m. m.number) e ∙ z))) in
-      record { number = ap handed f.0 ∙ e; circuit = f.1 ∙ sym none; rows = f.2 ∙ sym (ap set_up_rows none ∙ none_prepared) }
+  -- past the bytes, what set-up says of their record is what reading says
+  pub bytes_passed : {r : Record} {m : Report} → done ≡ judge file_rules s → r ≡ record_of s → m ≡ set_up_report r → m ≡ read_report s
+  bytes_passed e f g = g ∙ ap set_up_report f ∙ sym (read_on (ap (λ (m : Report). m.number) (sym e)))
+
+  -- and where nothing is refused, the record is theirs
+  pub record_kept : {r : Record} → done ≡ read_report s → r ≡ record_of s → r ≡ read_record s
+  record_kept e f = f ∙ sym (record_read (ap (λ (m : Report). m.number) (sym e)))
 
   -- where reading hands back 0, the bytes are accepted
   pub read_judged : (read_report s).number ≡ 0 → (judge file_rules s).number ≡ 0
@@ -85,10 +77,8 @@ module _ (w : WriteCall) where
   unfolding buffer_after
   buffer_written e = rw (eq-eqb _ _ e)
 
-  -- what a writing is, by its number
-  pub writes_file : (a : Answer) (after : List ℕ) → handed a ≡ write_report w → (handed a).number ≡ 0 → after ≡ file_of w.circuit → Writes w a after
-  writes_file a after e z f = record { number = e; buffer = f ∙ sym (buffer_written (ap (λ m. m.number) (sym e) ∙ z)) }
-
-  pub writes_nothing : (a : Answer) → handed a ≡ write_report w → ((handed a).number ≡ 0 → ⊥) → Writes w a w.buffer
+  -- a refusal leaves the buffer as it was
+  pub refused_left : (e : Refusal) → told e ≡ write_report w → w.buffer ≡ buffer_after w
   unfolding buffer_after
-  writes_nothing a e h = record { number = e; buffer = rw (ne_eqb _ _ (λ z. h (ap (λ m. m.number) e ∙ z))) }
+  refused_left e f =
+      sym (rw (ne_eqb (write_report w).number 0 (λ z. let above = told_above e in let same = ap (λ (m : Report). m.number) f in omega arith)) refl)

@@ -13,18 +13,19 @@ use lib.Seq.{take_at, length-take-le, take-take}
 use lib.IntN.{pos}
 use lib.Ieee.{Float, nan, inf, fin, is_nan, mul, le, lt, eq}
 use Rattle.circuit.specs.Counting.{every}
-use Rattle.circuit.specs.Numbers.{handed, done, passes}
+use Rattle.std.specs.Prelude.{Result, Ok, Err, IfOk, ⊤}
+use Rattle.circuit.specs.Numbers.{done, passes, handed}
 use Rattle.circuit.specs.Record.{row_limit, column_limit, blank_row, row_at, part_at, column_at, sound_part, version_rule, value_rule}
 use Rattle.circuit.specs.SetUp.{fits, curve_resistance_rule, set_up_report}
-use Rattle.circuit.specs.File.{file_length, block_length, check_place, rows_per_block, row_length, column_length, number_at, float_at, check_of, block, heading, row_bytes, row_from, column_fields, column_from, concat, blocks_of, sealed_from, file_of, row_place, column_place, record_of, block_at, clear, clear_row, clear_file, read_report, WriteCall, write_report}
+use Rattle.circuit.specs.File.{file_length, block_length, check_place, rows_per_block, row_length, column_length, number_at, float_at, check_of, block, heading, row_bytes, row_from, column_fields, column_from, concat, blocks_of, sealed_from, file_of, row_place, column_place, record_of, block_at, clear, clear_row, clear_file, read_report, read_record, WriteCall, write_report}
 use Rattle.circuit.specs.Promises.{Reads, Writes}
 use Rattle.circuit.specs.declared.Row.{Row}
 use Rattle.circuit.specs.declared.Record.{Record}
-use Rattle.circuit.specs.declared.Reading.{Reading}
-use Rattle.circuit.specs.declared.Answer.{Answer}
+use Rattle.circuit.specs.declared.Refusal.{Refusal}
 use Rattle.laws.specs.Accepted.{Sized}
 use Rattle.laws.proofs.Counting.{every_true, true_every, unless_passes, lowest_passes, length_table, get_or-table, is_table}
 use Rattle.laws.proofs.Judging.{Passed, done_passed}
+use Rattle.laws.proofs.Trying.{told_undone}
 use Rattle.laws.proofs.Formed.{formed, rows_blank}
 use Rattle.file.specs.Held.{Held}
 use Rattle.blocks.specs.Placing.{Bytes, heading_length}
@@ -212,8 +213,8 @@ module _ (r : Record) (held : Held r) where
         (Heading.gaps_clear r held (file_of r) heading_found).1,
         pad_clear 0 heading_length (omega arith) (heading_size r),
         true_every (λ j. clear_row (number_at 1 (row_place j) (file_of r)) (row_place j) (file_of r)) rows_per_block (λ j h. row_passes (file_of r) (row_place j) _ (row_found j (omega arith))),
-        pad_clear 1 (row_length * row_limit) (omega arith) (rows_size r held.sized),
-        pad_clear 2 (column_length * column_limit) (omega arith) (columns_size r held.sized),
+        pad_clear 1 (row_length * row_limit) (omega arith) (rows_size r.rows ∙ ap (λ (n : ℕ). row_length * n) held.sized.rows),
+        pad_clear 2 (column_length * column_limit) (omega arith) (columns_size r.columns ∙ ap (λ (n : ℕ). column_length * n) held.sized.columns),
       )
 
   sound_found : version_rule r.version ≡ passes → Sound (file_of r)
@@ -232,30 +233,30 @@ module _ (r : Record) (held : Held r) where
 -- ---- the round trips, of what reading hands back and what writing leaves
 
 -- a buffer that is written has a file's length
-pub written_long : {c : WriteCall} {a : Answer} {after : List ℕ} → Writes c a after → handed a ≡ done → length c.buffer ≡ file_length
+pub written_long : {c : WriteCall} {a : Result ⊤ Refusal} {after : List ℕ} → Writes c a after → handed a ≡ done → length c.buffer ≡ file_length
 written_long {c} w ok = written_length c (sym w.number ∙ ok)
 
 -- an accepted file, read and then written to a buffer of a file's length: it is written, and is the same bytes
-pub read_then_written : {s b after : List ℕ} {got : Reading} {a : Answer} → Bytes s → Reads s got → handed got.answer ≡ done → length b ≡ file_length
-    → Writes (record { circuit = got.«record»; buffer = b }) a after → (handed a ≡ done) × (after ≡ s)
-read_then_written {s} {b} {after} {got} {a} bs g ok n w = (w.number ∙ reported, w.buffer ∙ buffer_written asked (ap (λ m. m.number) reported) ∙ ap file_of same ∙ file_there s bs told)
+pub read_then_written : {s b after : List ℕ} {r : Record} {a : Result ⊤ Refusal} → Bytes s → Reads s (Ok r) → length b ≡ file_length
+    → Writes (record { circuit = r; buffer = b }) a after → (handed a ≡ done) × (after ≡ s)
+read_then_written {s} {b} {after} {r} {a} bs g n w = (w.number ∙ reported, w.buffer ∙ buffer_written asked (ap (λ m. m.number) reported) ∙ ap file_of same ∙ file_there s bs told)
   where
     asked : WriteCall
-    asked = record { circuit = got.«record»; buffer = b }
+    asked = record { circuit = r; buffer = b }
 
     told : read_report s ≡ done
-    told = sym g.number ∙ ok
+    told = sym g.number
 
-    same : got.«record» ≡ record_of s
+    same : r ≡ record_of s
     same = g.circuit ∙ record_read s (ap (λ m. m.number) told)
 
     reported : write_report asked ≡ done
     reported = write_on asked n ∙ ap set_up_report same ∙ sym (read_on s (read_judged s (ap (λ m. m.number) told))) ∙ told
 
 -- a record that is written, and its file then read: it is accepted, and is the same record
-pub written_then_read : {r : Record} {b after : List ℕ} {a : Answer} {got : Reading} → Held r → Writes (record { circuit = r; buffer = b }) a after → handed a ≡ done → Reads after got
-    → (handed got.answer ≡ done) × (got.«record» ≡ r)
-written_then_read {r} {b} {after} {a} {got} held w ok g = (g.number ∙ accepted, g.circuit ∙ record_read after (ap (λ m. m.number) accepted) ∙ ap record_of left ∙ record_found r held)
+pub written_then_read : {r : Record} {b after : List ℕ} {a : Result ⊤ Refusal} {got : Result Record Refusal} → Held r → Writes (record { circuit = r; buffer = b }) a after
+    → handed a ≡ done → Reads after got → got ≡ Ok r
+written_then_read {r} {b} {after} {a} {got} held w ok g = by got (g.number ∙ accepted) g.circuit
   where
     asked : WriteCall
     asked = record { circuit = r; buffer = b }
@@ -268,3 +269,7 @@ written_then_read {r} {b} {after} {a} {got} held w ok g = (g.number ∙ accepted
 
     accepted : read_report after ≡ done
     accepted = ap read_report left ∙ report_found r held (sym (write_on asked (written_long w ok)) ∙ told)
+
+    by : (got : Result Record Refusal) → handed got ≡ done → IfOk got (λ q. q ≡ read_record after) → got ≡ Ok r
+    by (Ok q) e f = ap Ok (f ∙ record_read after (ap (λ m. m.number) accepted) ∙ ap record_of left ∙ record_found r held)
+    by (Err e) same f = absurd (told_undone e same)

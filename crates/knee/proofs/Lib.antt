@@ -1,1 +1,2 @@
+pub mod Knobs
 pub mod Turning

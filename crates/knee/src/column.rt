@@ -1,33 +1,53 @@
-// The columns of a knee `a` and a thermal voltage `v`, and rule 18, in whole microvolts. No product reaches 2^63, whatever `a` and `v` are; where
-// they are not refused, x and y keep 2^26.
-ghost use Rattle.std.specs.Prelude.{true, ◌≡◌, suc, ◌≤◌, ◌<◌, pos, ◌*ℤ◌};
+// The columns of a knob, and rule 18, in whole microvolts. No product reaches 2^63, whatever the knob is; where it is not refused, x and y
+// keep 2^26.
+ghost use Rattle.std.specs.Prelude.{true, false, IfSome, IfNone, ◌≡◌, suc, ◌≤◌, ◌<◌, pos, ◌*ℤ◌};
 ghost use Rattle.std.specs.Int.Signed.{shr_z};
 ghost use Rattle.circuit.specs.Record.{column_limit};
 ghost use Rattle.circuit.specs.Omega.{omega_parts};
-ghost use Rattle.circuit.specs.Knee.{knob, x_at, knee_column, sound_knob};
+ghost use Rattle.circuit.specs.Knee.{x_at, knee_column, sound_knob};
 
-use circuit::{COLUMNS, Column, WAVE_LIMIT, is_zero};
+use circuit::{COLUMNS, Column, Knob, WAVE_LIMIT};
 
 // The last column, counted as those after column 0 are.
 const LAST: usize = COLUMNS - 2;
 
 // x of column k + 1.
-fn x_at(a: i32, v: i32, k: usize) -> i64
+fn x_at(knob: Knob, k: usize) -> i64
     requires { k ≤ 60 }
-    ensures { result ≡ x_at (knob a v) k }
+    ensures { result ≡ x_at knob k }
 {
     let threes = (k * 3) as i64;
-    let wide = v as i64;
-    (a as i64) + ((threes * wide) >> 5)
+    let wide = knob.thermal as i64;
+    (knob.knee as i64) + ((threes * wide) >> 5)
 }
 
 // Rule 18.
-pub(crate) fn is_sound(a: i32, v: i32) -> bool
-    ensures { result ≡ sound_knob (knob a v) }
+fn is_sound(knob: Knob) -> bool
+    ensures { result ≡ sound_knob knob }
 {
-    let last = x_at(a, v, LAST);
-    let whole = is_zero(v % 32);
-    (1 <= a) & (1 <= v) & whole & (last <= WAVE_LIMIT as i64)
+    let last = x_at(knob, LAST);
+    let whole = knob.thermal % 32 == 0;
+    (1 <= knob.knee) & (1 <= knob.thermal) & whole & (last <= WAVE_LIMIT as i64)
+}
+
+// A knob that rule 18 passes.
+#[derive(Clone, Copy)]
+pub(crate) struct Sound {
+    knob: Knob,
+    ghost passed: { sound_knob knob ≡ true },
+}
+
+impl Sound {
+    pub(crate) fn new(knob: Knob) -> Option<Self>
+        ensures passed { IfSome result (λ s. s.knob ≡ knob) }
+        ensures refused { IfNone result (sound_knob knob ≡ false) }
+    {
+        if is_sound(knob) {
+            Some(Sound { knob })
+        } else {
+            None
+        }
+    }
 }
 
 // Half of what y lies behind x, by Omega's entry.
@@ -38,13 +58,13 @@ fn lag(v: i32, w: u32) -> i64
 }
 
 // Column k + 1: from one of these to the next there are 24 entries of Omega's table.
-fn column_after(a: i32, v: i32, k: usize) -> Column
-    requires { (sound_knob (knob a v) ≡ true) × (k ≤ 60) }
-    ensures { result ≡ knee_column (knob a v) (suc k) }
+fn column_after(s: Sound, k: usize) -> Column
+    requires { k ≤ 60 }
+    ensures { result ≡ knee_column s.knob (suc k) }
 {
-    let x = x_at(a, v, k);
+    let x = x_at(s.knob, k);
     let w = omega::entry(24 * k);
-    let y = x - 2 * lag(v, w);
+    let y = x - 2 * lag(s.knob.thermal, w);
     Column {
         x: x as i32,
         y: y as i32,
@@ -52,12 +72,12 @@ fn column_after(a: i32, v: i32, k: usize) -> Column
 }
 
 // Column j.
-pub(crate) fn column(a: i32, v: i32, j: usize) -> Column
-    requires { (sound_knob (knob a v) ≡ true) × (j < column_limit) }
-    ensures { result ≡ knee_column (knob a v) j }
+pub(crate) fn column(s: Sound, j: usize) -> Column
+    requires { j < column_limit }
+    ensures { result ≡ knee_column s.knob j }
 {
     if j == 0 {
         return Column { x: 0, y: 0 };
     }
-    column_after(a, v, j - 1)
+    column_after(s, j - 1)
 }

@@ -3,11 +3,9 @@
 // and the thermal voltage, in whole microvolts.
 #![tactic(auto)]
 
-use circuit::{Answer, FILE_LENGTH};
-use numeral::Numeral;
+use circuit::{FILE_LENGTH, Knob, Refusal};
 use std::io;
 use streams::{argument, read_full};
-use words::ROOM;
 
 // The program's own name, the knee and the thermal voltage.
 const ARGUMENTS: usize = 3;
@@ -16,87 +14,62 @@ const ARGUMENTS: usize = 3;
 const LONGEST_ARGUMENT: usize = 4096;
 
 // The most that an i32 holds. It is refused, so what is above it may count as it.
-const MOST: u32 = 2147483647;
-
-// What an argument asks for.
-#[derive(Clone, Copy)]
-enum Voltage {
-    Microvolts(i32),
-    Nothing,
-}
-
-fn say(rt: &HostRuntime, words: &[u8]) -> io::Result<()> {
-    rt.stderr().write_all(words)
-}
+const MOST: u32 = i32::MAX as u32;
 
 fn say_usage(rt: &HostRuntime) -> io::Result<()> {
-    say(
-        rt,
-        b"usage: knob A V < FILE, where FILE is a circuit file, A a knee and V a thermal voltage, both in whole microvolts\n",
+    eprintln!(rt;
+        "usage: knob A V < FILE, where FILE is a circuit file, A a knee and V a thermal voltage, both in whole microvolts"
     )
 }
 
-fn say_refusal(rt: &HostRuntime, a: Answer) -> io::Result<()> {
-    let number = a.number();
-    let place = a.place();
-    eprint!(rt; "knob: refused {number} at {place}: ")?;
-    let mut line = [0u8; ROOM];
-    let length = words::explain(a, &mut line);
-    say(rt, &line[..length])
+// `take` has the like. One public function for both could promise nothing, for no clause speaks of what is printed.
+fn say_refusal(rt: &HostRuntime, refusal: Refusal) -> io::Result<()> {
+    let words = words::explain(Err(refusal));
+    eprint!(rt; "knob: {refusal}: {words}")
 }
 
-// An argument that is longer than the buffer counts as empty, and so does one that is not there.
-fn asked(rt: &HostRuntime, place: usize) -> Voltage {
+// An argument that is longer than the buffer counts as empty.
+fn voltage(rt: &HostRuntime, i: usize) -> Option<i32> {
     let mut digits = [0u8; LONGEST_ARGUMENT];
-    let length = argument(rt, place, &mut digits).unwrap_or(0);
-    match numeral::read(&digits[..length], MOST) {
-        Numeral::Number(number) => Voltage::Microvolts(number as i32),
-        Numeral::Nothing => Voltage::Nothing,
-    }
+    let length = argument(rt, i, &mut digits)?;
+    let number = numeral::read(&digits[..length], MOST)?;
+    i32::try_from(number).ok()
 }
 
 // Whether there are as many arguments as the usage says: the last of them, and none after it.
 fn as_many(rt: &HostRuntime) -> bool {
-    let mut none = [0u8; 0];
-    argument(rt, ARGUMENTS - 1, &mut none).is_some() && argument(rt, ARGUMENTS, &mut none).is_none()
+    argument(rt, ARGUMENTS - 1, &mut []).is_some() && argument(rt, ARGUMENTS, &mut []).is_none()
+}
+
+// The knob that the arguments ask for, where they are as the usage says.
+fn asked(rt: &HostRuntime) -> Option<Knob> {
+    if !as_many(rt) {
+        return None;
+    }
+    Some(Knob {
+        knee: voltage(rt, 1)?,
+        thermal: voltage(rt, 2)?,
+    })
 }
 
 // Writes the file with its curve built anew, or says why it is refused.
-fn turn(rt: &HostRuntime, s: &[u8], a: i32, v: i32) -> io::Result<()> {
+fn turn(rt: &HostRuntime, s: &[u8], knob: Knob) -> io::Result<()> {
     let mut out = [0u8; FILE_LENGTH];
-    let answer = knee::turn(s, a, v, &mut out);
-    if answer.number() == 0 {
-        rt.write_all(&out)
-    } else {
-        say_refusal(rt, answer)
+    match knee::turn(s, knob, &mut out) {
+        Ok(()) => rt.write_all(&out),
+        Err(refusal) => say_refusal(rt, refusal),
     }
 }
 
-// Turns the knob, and answers whether it was asked to as the usage says. One byte more than a file has is room enough to tell an input that is
-// too long.
-fn turn_as_asked(rt: &HostRuntime) -> io::Result<bool> {
-    if !as_many(rt) {
-        return Ok(false);
-    }
-    let Voltage::Microvolts(a) = asked(rt, 1) else {
-        return Ok(false);
-    };
-    let Voltage::Microvolts(v) = asked(rt, 2) else {
-        return Ok(false);
+// One byte more than a file has is room enough to tell an input that is too long.
+fn main(rt: HostRuntime) -> io::Result<()> {
+    let Some(knob) = asked(&rt) else {
+        return say_usage(&rt);
     };
     let mut bytes = [0u8; FILE_LENGTH + 1];
     let count = read_full(&mut rt.reader(), &mut bytes)?;
     if count == 0 {
-        return Ok(false);
+        return say_usage(&rt);
     }
-    turn(rt, &bytes[..count], a, v)?;
-    Ok(true)
-}
-
-fn main(rt: HostRuntime) -> io::Result<()> {
-    if turn_as_asked(&rt)? {
-        Ok(())
-    } else {
-        say_usage(&rt)
-    }
+    turn(&rt, &bytes[..count], knob)
 }

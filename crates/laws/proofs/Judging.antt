@@ -65,11 +65,6 @@ module _ {A : Type 0} where
   both_numbered [] ss h k = k
   both_numbered (r ∷ rs) ss h k = (h.0, both_numbered rs ss h.1 k)
 
-  -- the rule that decides, after those that pass
-  pub judge_at : (rs : List (Rule A)) (r : Rule A) (ss : List (Rule A)) (a : A) (p : ℕ) → Pass rs a → r.check a ≡ fails p
-      → judge (rs ++ r ∷ ss) a ≡ report r.number p
-  judge_at rs r ss a p h e = judge_rest rs (r ∷ ss) a h ∙ judge_fail r ss a p e
-
   -- a number above 0 is not changed by more rules
   pub judge_stop : (rs ss : List (Rule A)) (a : A) → 0 < (judge rs a).number → judge (rs ++ ss) a ≡ judge rs a
   unfolding judge

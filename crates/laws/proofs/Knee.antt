@@ -15,7 +15,8 @@ use Rattle.whole.specs.Quotients.{floor_high, floor_least, floor_mono, floor_exa
 use Rattle.circuit.specs.Numbers.{report, done, rule}
 use Rattle.circuit.specs.Curve.{wave_limit}
 use Rattle.circuit.specs.Omega.{omega_parts, entry_at}
-use Rattle.circuit.specs.Knee.{Knob, x_at, y_at, lag_at, knee_column, sound_knob, voltage_rule, build_report, if_built}
+use Rattle.circuit.specs.Knee.{x_at, y_at, lag_at, knee_column, sound_knob, voltage_rule, build_report, if_built}
+use Rattle.circuit.specs.declared.Knob.{Knob}
 use Rattle.laws.specs.Accepted.{Beside}
 use Rattle.laws.proofs.Judging.{judge_test}
 use Rattle.laws.proofs.Omega.{first_entry, Climbs, climbs}

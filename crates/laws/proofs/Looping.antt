@@ -1,4 +1,4 @@
--- A loop that counts from 0 to n and holds, before turn i, what F is at i: a test of every place so far, a sum, a list that is filled.
+-- A loop that counts from 0 to n and holds, before turn i, what F is at i, as a list that is filled or counts so far.
 -- `Upto` is its invariant, `onward` is what a turn asks, and `whole` is what the loop has made in the end.
 use Prim.Native.Nat.{ℕ, ◌+◌, ◌<◌, ◌≤◌}
 use native.Mathlib.Nat.{le_antisymm}

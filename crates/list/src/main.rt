@@ -1,23 +1,9 @@
 // Lists the circuit file on standard input. Standard error says in words why a file is refused.
 #![tactic(auto)]
 
-use circuit::{Answer, FILE_LENGTH};
+use circuit::FILE_LENGTH;
 use std::io;
 use streams::read_full;
-
-fn say<P: Print>(to: &P, words: &[u8]) -> io::Result<()> {
-    to.write_all(words)
-}
-
-fn say_refusal<P: Print>(to: &P, a: Answer) -> io::Result<()> {
-    if a.number() != 0 {
-        say(to, b"list: ")?;
-        let mut line = [0u8; words::ROOM];
-        let length = words::explain(a, &mut line);
-        say(to, &line[..length])?;
-    }
-    Ok(())
-}
 
 // One byte more than a file has is room enough to tell an input that is too long.
 fn main(rt: HostRuntime) -> io::Result<()> {
@@ -25,14 +11,15 @@ fn main(rt: HostRuntime) -> io::Result<()> {
     let count = read_full(&mut rt.reader(), &mut bytes)?;
     let mut text = [0u8; listing::ROOM];
     let listed = listing::list(&bytes[..count], &mut text);
-    let length = listed.length;
-    rt.write_all(&text[..length])?;
+    rt.write_all(&text[..listed.length])?;
     if count == 0 {
-        say(
-            &rt.stderr(),
-            b"usage: list < FILE, where FILE is a circuit file\n",
-        )
-    } else {
-        say_refusal(&rt.stderr(), listed.answer)
+        return eprintln!(rt; "usage: list < FILE, where FILE is a circuit file");
+    }
+    match listed.answer {
+        Ok(()) => Ok(()),
+        Err(refusal) => {
+            let words = words::explain(Err(refusal));
+            eprint!(rt; "list: {words}")
+        }
     }
 }

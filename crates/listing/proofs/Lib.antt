@@ -1,3 +1,3 @@
-pub mod Texts
+pub mod Digits
 pub mod Rows
 pub mod Reading

@@ -1,38 +1,40 @@
--- Which lines a file's listing has, by the number that reading hands back; and where they stand after `list`.
-use Prim.Native.Nat.{ℕ, ◌≤◌}
+-- Which lines a file's listing has, by what opening it answers, and where they stand after `list`.
+use Prim.Native.Nat.{ℕ}
 use native.Mathlib.Omega.{arith}
-use lib.ListN.{length, length-append}
+use lib.ListN.{length, drop}
 use borrow.Author.Tests.{ne_eqb, eq-eqb}
 use mathlib.Core.Path.{◌≡◌, sym, ap, ◌∙◌}
-use mathlib.Core.List.{List}
-use Rattle.circuit.specs.Numbers.{handed, report}
+use mathlib.Core.List.{List, ◌++◌}
+use Rattle.std.specs.Prelude.{Ok, Err}
+use Rattle.circuit.specs.Numbers.{handed, told}
 use Rattle.circuit.specs.SetUp.{set_up_report}
-use Rattle.circuit.specs.File.{read_report, record_of}
+use Rattle.circuit.specs.File.{read_report}
 use Rattle.circuit.specs.Listing.{accepted_lines, refused_line, listing}
-use Rattle.circuit.specs.Promises.{Lists}
+use Rattle.circuit.specs.Promises.{Opens, Lists}
 use Rattle.circuit.specs.declared.Listed.{Listed}
-use Rattle.file.proofs.Reported.{read_judged, read_on}
-use Rattle.listing.specs.Writing.{Puts}
-use Rattle.listing.proofs.Texts.{puts_as, starts, starts_bytes}
+use Rattle.circuit.specs.declared.Opened.{Opened}
+use Rattle.circuit.specs.declared.Refusal.{Refusal}
+use Rattle.laws.proofs.Trying.{told_above}
+use Rattle.file.proofs.Reported.{read_judged, read_on, record_read}
 
 module _ (s : List ℕ) where
-  -- a file that reading accepts holds a record that set-up accepts
-  pub set_up_accepts : (read_report s).number ≡ 0 → (set_up_report (record_of s)).number ≡ 0
-  set_up_accepts e = ap (λ n. n.number) (sym (read_on s (read_judged s e))) ∙ e
+  module _ {o : Opened} (h : Opens s (Ok o)) where
+    none : (read_report s).number ≡ 0
+    none = ap (λ m. m.number) (sym h.number)
 
-  pub listing_accepted : (read_report s).number ≡ 0 → accepted_lines (record_of s) ≡ listing s
+    -- a file that is opened holds a record that set-up accepts
+    pub set_up_accepts : (set_up_report o.circuit).number ≡ 0
+    set_up_accepts = rw (h.circuit, record_read s none) (ap (λ n. n.number) (sym (read_on s (read_judged s none))) ∙ none)
+
+    pub listing_accepted : accepted_lines o.circuit ≡ listing s
+    unfolding listing
+    listing_accepted = rw (h.circuit, record_read s none, eq-eqb _ _ none)
+
+  pub listing_refused : {e : Refusal} → Opens s (Err e) → refused_line (told e) ≡ listing s
   unfolding listing
-  listing_accepted e = rw (eq-eqb _ _ e)
+  listing_refused {e} h = rw (← h.number, ne_eqb (told e).number 0 (λ z. let above = told_above e in omega arith))
 
-  pub listing_refused : (n p : ℕ) → n ≡ (read_report s).number → p ≡ (read_report s).place → (n ≡ 0 → ⊥) → refused_line (report n p) ≡ listing s
-  unfolding listing
-  listing_refused n p number place h = rw (number, place, ne_eqb _ _ (λ e. h (number ∙ e)))
-
-  -- the listing, at the start of the buffer
-  pub lists : {l : Listed} {most : ℕ} {t out after : List ℕ} → handed l.answer ≡ read_report s → t ≡ listing s
-      → Puts most t 0 out l.length after → Lists s out l after
-  lists a e p = let q = puts_as p e in record { number = a; size = starts q; text = starts_bytes q }
-
--- so it ends within the buffer
-pub listed_inside : {bytes before after : List ℕ} {l : Listed} → Lists bytes before l after → l.length ≤ length after
-listed_inside h = omega (arith, h.size, simp length-append at (ap length h.text))
+-- a text that is the listing, at the start of the buffer
+pub lists : {bytes before after text : List ℕ} {l : Listed} → handed l.answer ≡ read_report bytes → text ≡ listing bytes → l.length ≡ length text
+    → after ≡ text ++ drop (length text) before → Lists bytes before l after
+lists a e n p = record { number = a; size = n ∙ ap length e; text = rw e at p }

@@ -1,104 +1,90 @@
 // A row's line: its number, its kind in a word, and a dash or its ratio.
-ghost use Rattle.std.specs.Prelude.{◌+◌, ◌*◌, ◌≤◌, ◌≡◌, length};
-ghost use Rattle.circuit.specs.SetUp.{ratio_at, set_up_report, set_up_rows};
-ghost use Rattle.circuit.specs.Listing.{element_name, join_name, row_line};
-ghost use Rattle.listing.specs.Writing.{Puts, name_room, ending_room, line_room};
-ghost use Rattle.listing.specs.Lines.{ending, row_lines};
+ghost use Rattle.std.specs.Prelude.{◌+◌, ◌*◌, ◌≤◌, ◌≡◌, ◌++◌, length};
+ghost use Rattle.circuit.specs.SetUp.{set_up_report, set_up_rows};
+ghost use Rattle.circuit.specs.Listing.{listing_room, element_name, join_name};
+ghost use Rattle.listing.specs.Lines.{ending, line, part_line, row_lines, name_room, ending_room, line_room};
 
-use crate::text::{put_number, put_text};
-use circuit::{Adaptor, Element, Join, Part, Prepared, ROWS, Record};
+use crate::text::Text;
+use circuit::{Element, Join, Part, Prepared, ROWS, Record};
 
 #[tactic(auto, unfolding(circuit::specs::Text::text))]
-fn put_element(out: &mut [u8], at: usize, e: Element) -> usize
-    requires { at + name_room ≤ length out.old }
-    ensures { Puts name_room (element_name e) at out.old result out.new }
+fn element_name(e: Element) -> &'static str
+    ensures name { result.now ≡ element_name e }
+    ensures size { length result.now ≤ name_room }
 {
     match e {
-        Element::Resistor(_) => put_text(out, at, b"resistor"),
-        Element::Capacitor(_) => put_text(out, at, b"capacitor"),
-        Element::Inductor(_) => put_text(out, at, b"inductor"),
-        Element::Input(_) => put_text(out, at, b"input"),
-        Element::Steady(_, _) => put_text(out, at, b"steady"),
+        Element::Resistor(_) => "resistor",
+        Element::Capacitor(_) => "capacitor",
+        Element::Inductor(_) => "inductor",
+        Element::Input(_) => "input",
+        Element::Steady(_, _) => "steady",
     }
 }
 
 #[tactic(auto, unfolding(circuit::specs::Text::text))]
-fn put_join(out: &mut [u8], at: usize, k: Join) -> usize
-    requires { at + name_room ≤ length out.old }
-    ensures { Puts name_room (join_name k) at out.old result out.new }
+fn join_name(k: Join) -> &'static str
+    ensures name { result.now ≡ join_name k }
+    ensures size { length result.now ≤ name_room }
 {
     match k {
-        Join::Series => put_text(out, at, b"series"),
-        Join::Parallel => put_text(out, at, b"parallel"),
+        Join::Series => "series",
+        Join::Parallel => "parallel",
     }
 }
 
-// What a row's line ends in.
-#[derive(Clone, Copy)]
-enum Ending {
-    Dash,
-    Ratio(u64),
-}
-
-fn put_ending(out: &mut [u8], at: usize, e: Ending) -> usize
-    requires { at + ending_room ≤ length out.old }
-    ensures { Puts ending_room (ending e) at out.old result out.new }
-{
-    match e {
-        Ending::Dash => put_text(out, at, b" -\n"),
-        Ending::Ratio(ratio) => {
-            let digits = put_text(out, at, b" ");
-            put_number(out, digits, ratio, b"\n")
+impl Text {
+    // What a row's line ends in.
+    #[tactic(auto, unfolding(circuit::specs::Text::text, crate::specs::Lines::ending))]
+    fn push_ending(&mut self, ratio: Option<u64>)
+        requires { length self.old + ending_room ≤ listing_room }
+        ensures bytes { self.new ≡ self.old ++ ending ratio }
+        ensures size { length self.new ≤ length self.old + ending_room }
+    {
+        match ratio {
+            None => self.push(" -\n"),
+            Some(ratio) => {
+                self.push(" ");
+                self.push_number(ratio);
+                self.push("\n");
+            }
         }
     }
-}
 
-// A leaf's line, which is the same in every record.
-fn put_leaf(out: &mut [u8], at: usize, j: u64, e: Element) -> usize
-    requires { at + line_room ≤ length out.old }
-    ensures { (r : Record) → Puts line_room (row_line r j (Part.Leaf e)) at out.old result out.new }
-{
-    let name = put_number(out, at, j, b" ");
-    let end = put_element(out, name, e);
-    put_ending(out, end, Ending::Dash)
-}
-
-// An adaptor's line, which is the same in every record where the row has this ratio.
-fn put_adaptor(out: &mut [u8], at: usize, j: u64, a: Adaptor, ratio: u64) -> usize
-    requires { at + line_room ≤ length out.old }
-    ensures { (r : Record) → ratio_at r j ≡ ratio → Puts line_room (row_line r j (Part.Adaptor a)) at out.old result out.new }
-{
-    let join = a.join;
-    let name = put_number(out, at, j, b" ");
-    let end = put_join(out, name, join);
-    put_ending(out, end, Ending::Ratio(ratio))
-}
-
-// A row's line; a blank one has no byte.
-fn put_part(out: &mut [u8], at: usize, j: u64, part: Part, ratio: u64) -> usize
-    requires { at + line_room ≤ length out.old }
-    ensures { (r : Record) → ratio_at r j ≡ ratio → Puts line_room (row_line r j part) at out.old result out.new }
-{
-    match part {
-        Part::Blank => put_text(out, at, b""),
-        Part::Leaf(e) => put_leaf(out, at, j, e),
-        Part::Adaptor(a) => put_adaptor(out, at, j, a, ratio),
+    #[tactic(auto, unfolding(circuit::specs::Text::text, crate::specs::Lines::line))]
+    fn push_line(&mut self, j: u64, name: &str, ratio: Option<u64>)
+        requires { (length name.now ≤ name_room) × (length self.old + line_room ≤ listing_room) }
+        ensures bytes { self.new ≡ self.old ++ line j name.now ratio }
+        ensures size { length self.new ≤ length self.old + line_room }
+    {
+        self.push_number(j);
+        self.push(" ");
+        self.push(name);
+        self.push_ending(ratio);
     }
-}
 
-// The rows of a record that set-up accepts, with what it prepared for each.
-pub(crate) fn put_rows(out: &mut [u8], at: usize, r: Record, prepared: [Prepared; ROWS]) -> usize
-    requires { ((set_up_report r).number ≡ 0) × (prepared ≡ set_up_rows r) × (at + line_room * r.count ≤ length out.old) }
-    ensures { Puts (line_room * r.count) (row_lines r r.count) at out.old result out.new }
-{
-    let mut next = at;
-    let mut j: usize = 0;
-    while j < r.count as usize {
-        let row = r.rows[j];
-        let part = row.part;
-        let ready = prepared[j];
-        next = put_part(out, next, j as u64, part, ready.ratio as u64);
-        j += 1;
+    #[tactic(auto, unfolding(crate::specs::Lines::part_line))]
+    fn push_row(&mut self, j: u64, part: Part, ratio: u64)
+        requires { length self.old + line_room ≤ listing_room }
+        ensures bytes { self.new ≡ self.old ++ part_line j part ratio }
+        ensures size { length self.new ≤ length self.old + line_room }
+    {
+        match part {
+            Part::Blank => {}
+            Part::Leaf(e) => self.push_line(j, element_name(e), None),
+            Part::Adaptor(a) => self.push_line(j, join_name(a.join), Some(ratio)),
+        }
     }
-    next
+
+    // The rows of a record that set-up accepts, with what it prepared for each.
+    pub(crate) fn push_rows(&mut self, r: &Record, prepared: &[Prepared; ROWS])
+        requires accepted { (set_up_report r.now).number ≡ 0 }
+        requires rows { prepared.now ≡ set_up_rows r.now }
+        requires room { length self.old + line_room * r.now.count ≤ listing_room }
+        ensures bytes { self.new ≡ self.old ++ row_lines r.now r.now.count }
+        ensures size { length self.new ≤ length self.old + line_room * r.now.count }
+    {
+        for j in 0..r.count as usize {
+            self.push_row(j as u64, r.rows[j].part, prepared[j].ratio as u64);
+        }
+    }
 }

@@ -4,49 +4,38 @@
 ghost use Rattle.std.specs.Prelude.{◌≡◌, ◌^◌, ◌<◌, ◌&&◌, pos, ◌-ℤ◌, if◌then◌else◌, int_lt, nat_eq, nat_le, unsigned_abs};
 ghost use Rattle.std.specs.Float.Ieee.Positive.{positive};
 ghost use Rattle.circuit.specs.Counting.{within};
-ghost use Rattle.circuit.specs.Record.{at_origin, sound_element, sound_part};
+ghost use Rattle.circuit.specs.Record.{at_origin, sound_part};
 ghost use Rattle.circuit.specs.Curve.{wave_limit, beside, starts};
 ghost use Rattle.circuit.specs.SetUp.{in_range, leaf_resistance, joined_resistance, quotient, parts, scaled_down, ratio_fault, fits};
 ghost use Rattle.measure.specs.Ratio.{proper, joined_row};
 
 use circuit::{
     Column, CurveKind, Element, Join, PARTS, Part, Prepared, in_source_limit, in_wave_limit,
-    is_zero,
 };
 
 // A NaN passes neither comparison.
 fn is_positive(x: f64) -> bool
     ensures { result ≡ positive x }
 {
-    (0.0 < x) & (x < 1.0 / 0.0)
-}
-
-fn sound_element(e: Element) -> bool
-    ensures { result ≡ sound_element e }
-{
-    match e {
-        Element::Resistor(ohms) => is_positive(ohms),
-        Element::Capacitor(farads) => is_positive(farads),
-        Element::Inductor(henries) => is_positive(henries),
-        Element::Input(ohms) => is_positive(ohms),
-        Element::Steady(ohms, v) => is_positive(ohms) & in_source_limit(v),
-    }
+    (0.0 < x) & (x < f64::INFINITY)
 }
 
 pub fn sound_part(p: Part) -> bool
     ensures { result ≡ sound_part p }
 {
     match p {
-        Part::Blank => true,
-        Part::Leaf(e) => sound_element(e),
-        Part::Adaptor(_) => true,
+        Part::Leaf(Element::Steady(ohms, v)) => is_positive(ohms) & in_source_limit(v),
+        Part::Leaf(
+            Element::Resistor(x) | Element::Capacitor(x) | Element::Inductor(x) | Element::Input(x),
+        ) => is_positive(x),
+        Part::Blank | Part::Adaptor(_) => true,
     }
 }
 
 pub fn at_origin(c: Column) -> bool
     ensures { result ≡ at_origin c }
 {
-    is_zero(c.x) & is_zero(c.y)
+    c == Column { x: 0, y: 0 }
 }
 
 // How far b lies above a: in 64 bits, where the difference of any two coordinates fits.
@@ -75,11 +64,7 @@ fn stands_beside(o: Column, n: Column) -> bool
 fn may_start(kind: CurveKind, c: Column) -> bool
     ensures { result ≡ starts kind c }
 {
-    match kind {
-        CurveKind::Unset => true,
-        CurveKind::Single => true,
-        CurveKind::Pair => at_origin(c),
-    }
+    (kind != CurveKind::Pair) | at_origin(c)
 }
 
 // Column i, with the one before it; column 0 has none.
@@ -98,14 +83,13 @@ pub fn leaf_resistance(rate: u32, e: Element) -> f64
     ensures { result ≡ leaf_resistance rate e }
 {
     match e {
-        Element::Resistor(ohms) => ohms,
+        Element::Resistor(ohms) | Element::Input(ohms) | Element::Steady(ohms, _) => ohms,
         Element::Capacitor(farads) => 1.0 / ((2.0 * farads) * (rate as f64)),
         Element::Inductor(henries) => (2.0 * henries) * (rate as f64),
-        Element::Input(ohms) => ohms,
-        Element::Steady(ohms, _) => ohms,
     }
 }
 
+// The paper's two formulas have the same three operands: how two ports are joined, and their resistances.
 #[tactic(auto, unfolding(circuit::specs::SetUp::joined_resistance))]
 fn joined_resistance(join: Join, r1: f64, r2: f64) -> f64
     ensures { result ≡ joined_resistance join r1 r2 }
@@ -170,9 +154,5 @@ pub fn joined(join: Join, r1: f64, r2: f64) -> Prepared
 pub fn ratio_fault(p: Part, ratio: u32) -> bool
     ensures { result ≡ ratio_fault p ratio }
 {
-    match p {
-        Part::Blank => false,
-        Part::Leaf(_) => false,
-        Part::Adaptor(_) => !((1 <= ratio) & (ratio <= PARTS - 1)),
-    }
+    matches!(p, Part::Adaptor(_)) & !(1..PARTS).contains(&ratio)
 }

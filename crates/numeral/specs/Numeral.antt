@@ -1,8 +1,7 @@
 -- A number as a person types it: decimal digits, in ASCII, and nothing else.
-use Rattle.std.specs.Prelude.{ℕ, zero, suc, ◌+◌, ◌-◌, ◌*◌, min, Bool, ◌&&◌, cond, List, ltb, length, get_or}
-use Rattle.circuit.specs.Counting.{between, every}
-use Rattle.numeral.specs.declared.Numeral.{Numeral}
-use Rattle.numeral.specs.declared.Numeral.TheVariants.{Number, Nothing}
+use Rattle.std.specs.Prelude.{ℕ, ◌+◌, ◌-◌, ◌*◌, min, Bool, ◌&&◌, cond, List, ltb, length, fold, Option, Some, None}
+use Rattle.std.specs.List.{list_all}
+use Rattle.circuit.specs.Counting.{between}
 
 -- the bytes of 0 to 9
 abbrev pub is_digit : ℕ → Bool
@@ -13,19 +12,15 @@ abbrev pub digit_of : ℕ → ℕ
 digit_of b = b - 48
 
 abbrev pub are_digits : List ℕ → Bool
-are_digits s = every (λ i. is_digit (get_or s i 0)) (length s)
+are_digits s = list_all is_digit s
 
--- what the first n digits stand for
-unfoldable pub value_of : List ℕ → ℕ → ℕ
-value_of s zero = 0
-value_of s (suc n) = 10 * value_of s n + digit_of (get_or s n 0)
-
+-- what digits stand for
 abbrev pub value : List ℕ → ℕ
-value s = value_of s (length s)
+value s = fold (λ n b. 10 * n + digit_of b) 0 s
 
 abbrev pub is_numeral : List ℕ → Bool
 is_numeral s = ltb 0 (length s) && are_digits s
 
 -- a number above `most` counts as `most`
-unfoldable pub numeral : List ℕ → ℕ → Numeral
-numeral s most = cond (is_numeral s) (Number (min (value s) most)) Nothing
+unfoldable pub numeral : List ℕ → ℕ → Option ℕ
+numeral s most = cond (is_numeral s) (Some (min (value s) most)) None

@@ -22,9 +22,5 @@ fn read(n: usize) -> u32
 pub fn entry(n: usize) -> u32
     ensures { pos result ≡ entry_at (min n (entry_count - 1)) }
 {
-    if n < ENTRIES {
-        read(n)
-    } else {
-        read(ENTRIES - 1)
-    }
+    read(n.min(ENTRIES - 1))
 }

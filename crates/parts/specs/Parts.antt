@@ -9,7 +9,7 @@ use Rattle.circuit.specs.declared.Element.TheVariants.{Resistor, Capacitor, Indu
 use Rattle.circuit.specs.declared.Part.{Part}
 use Rattle.circuit.specs.declared.Part.TheVariants.{Blank, Leaf, Adaptor}
 
--- what a row is to a run: 0 a reactive leaf, 1 another leaf, 2 the input, 3 an adaptor, 4 a blank row
+-- what a row is to a run, by the role's index: 0 a reactive leaf, 1 another leaf, 2 the input, 3 an adaptor, 4 a blank row
 unfoldable pub role_of : Part → ℕ
 role_of Blank = 4
 role_of (Leaf (Resistor r)) = 1

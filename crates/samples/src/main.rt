@@ -35,8 +35,7 @@ fn list_file(rt: &HostRuntime, name: &str) -> io::Result<()> {
     rt.println(name)?;
     let mut text = [0u8; ROOM];
     let listed = listing::list(&bytes[..count], &mut text);
-    let length = listed.length;
-    rt.write_all(&text[..length])
+    rt.write_all(&text[..listed.length])
 }
 
 // Lists the file that argument i names, and answers whether there is such an argument. A name that is longer than the buffer counts as empty.

@@ -7,8 +7,7 @@ use mathlib.Core.Bool.{Bool, true, false, not, and-false}
 use mathlib.Core.List.{List}
 use borrow.Author.Tests.{ltb-false, lt-leb}
 use lib.Dec.{leb, ltb}
-use lib.Ieee.{Float, nan}
-use lib.ListN.{get_or}
+use lib.Ieee.{nan}
 use Rattle.circuit.specs.Counting.{between}
 use Rattle.circuit.specs.Numbers.{lowest}
 use Rattle.circuit.specs.Record.{row_limit, part_at}
@@ -22,13 +21,9 @@ use Rattle.laws.specs.Accepted.{Lower}
 use Rattle.laws.proofs.Counting.{get_or-table, table_same, lowest_same}
 use Rattle.laws.proofs.Trees.{tree_blank, tree_leaf, resistance_leaf, ratio_leaf, resistance_adaptor, ratio_adaptor}
 use Rattle.measure.specs.Ratio.{proper}
-use Rattle.setup.specs.Rows.{prepared_from, rows_by, Rooted, Filled}
+use Rattle.setup.specs.Rows.{entry, prepared_from, Rooted, filled_row, Filled}
 use Rattle.measure.specs.Ratio.{row, joined_row}
 use Rattle.measure.proofs.Width.{proper_below}
-
--- the record's row j, as set-up fills it
-abbrev pub filled_row : Record → ℕ → Prepared
-filled_row r j = row (resistance_at r j) (proper parts (ratio_at r j))
 
 -- a row with a proper ratio: another one only where rule 9 refuses it
 abbrev proper_row : Prepared → Prepared
@@ -62,43 +57,45 @@ module _ (r : Record) (rooted : Rooted r) where
   pub filled_blank : (j : ℕ) → r.count ≤ j → filled_row r j ≡ nothing
   filled_blank j l = let e = rooted.blank j l in ap proper_row (sym (port_row j Blank e))
 
-  pub fills : (Rs : List Float) (j : ℕ) → ((k : ℕ) → k < j → get_or Rs k nan ≡ resistance_at r k)
-      → prepared_from r.rate (part_at r j) Rs ≡ filled_row r j
+  pub fills : (rows : List Prepared) (j : ℕ) → ((k : ℕ) → k < j → entry rows k ≡ filled_row r k)
+      → prepared_from r.rate (part_at r j) rows ≡ filled_row r j
   unfolding prepared_from Lower
-  fills Rs j below = by (part_at r j) refl
+  fills rows j below = by (part_at r j) refl
     where
-      by : (p : Part) → part_at r j ≡ p → prepared_from r.rate p Rs ≡ filled_row r j
+      by : (p : Part) → part_at r j ≡ p → prepared_from r.rate p rows ≡ filled_row r j
       by Blank e = ap proper_row (port_row j Blank e)
       by (Leaf x) e =
           ap (λ R. row R 0) (sym (resistance_leaf r lower j (tree_leaf r lower j x e) ∙ ap (port_of r.rate) e))
           ∙ ap proper_row (port_row j (Leaf x) e)
       by (Adaptor a) e =
           let l = rw e at (lower j) in
-          ap₂ (joined_row a.join) (below a.first l.0) (below a.second l.1)
+          ap₂ (λ q1 q2. joined_row a.join q1.resistance q2.resistance) (below a.first l.0) (below a.second l.1)
           ∙ sym (ap₂ (λ R g. row R (proper parts g)) (resistance_adaptor r lower j a e) (ratio_adaptor r lower j a e))
 
   -- ---- what the rules read
 
-  module _ (Rs : List Float) (gs : List ℕ) (filled : Filled r Rs gs) where
-    pub resistance_at_lem : (j : ℕ) → j < row_limit → get_or Rs j nan ≡ resistance_at r j
-    resistance_at_lem j l = ap (λ (x : List Float). get_or x j nan) filled.resistances ∙ get_or-table (resistance_at r) row_limit j nan l
+  module _ (rows : List Prepared) (filled : Filled r rows) where
+    entry_filled : (j : ℕ) → j < row_limit → entry rows j ≡ filled_row r j
+    entry_filled j l = ap (λ (x : List Prepared). entry x j) filled ∙ get_or-table (filled_row r) row_limit j (row nan 0) l
 
-    ratio_at_lem : (j : ℕ) → j < row_limit → get_or gs j 0 ≡ proper parts (ratio_at r j)
-    ratio_at_lem j l = ap (λ (x : List ℕ). get_or x j 0) filled.ratios ∙ get_or-table (λ k. proper parts (ratio_at r k)) row_limit j 0 l
+    pub resistance_at_lem : (j : ℕ) → j < row_limit → (entry rows j).resistance ≡ resistance_at r j
+    resistance_at_lem j l = ap (λ q. q.resistance) (entry_filled j l)
 
-    pub resistance_rule : lowest (λ j. not (in_range (get_or Rs j nan))) r.count ≡ port_resistance_rule r
+    pub resistance_rule : lowest (λ j. not (in_range (entry rows j).resistance)) r.count ≡ port_resistance_rule r
     unfolding port_resistance_rule
     resistance_rule = lowest_same _ _ r.count (λ j l. ap (λ R. not (in_range R)) (resistance_at_lem j (omega (arith, rooted.formed.short))))
 
-    pub ratio_rule_lem : lowest (λ j. ratio_fault (part_at r j) (get_or gs j 0)) r.count ≡ ratio_rule r
+    pub ratio_rule_lem : lowest (λ j. ratio_fault (part_at r j) (entry rows j).ratio) r.count ≡ ratio_rule r
     unfolding ratio_rule
     ratio_rule_lem =
         lowest_same _ _ r.count
-        (λ j l. ap (ratio_fault (part_at r j)) (ratio_at_lem j (omega (arith, rooted.formed.short))) ∙ same_fault (part_at r j) (ratio_at r j))
+        (λ j l. ap (λ q. ratio_fault (part_at r j) q.ratio) (entry_filled j (omega (arith, rooted.formed.short)))
+        ∙ same_fault (part_at r j) (ratio_at r j))
 
     -- where every ratio is proper
-    pub rows_prepared : ((j : ℕ) → ratio_at r j < parts) → rows_by Rs gs ≡ prepared_rows r
+    pub rows_prepared : ((j : ℕ) → ratio_at r j < parts) → rows ≡ prepared_rows r
     unfolding prepared_rows
     rows_prepared small =
-        table_same _ (λ j. prepared_part r j (part_at r j)) row_limit
-        (λ j l. ap₂ row (resistance_at_lem j l) (ratio_at_lem j l ∙ sym (proper_below parts _ (small j))) ∙ sym (port_row j (part_at r j) refl))
+        filled
+        ∙ table_same (filled_row r) (λ j. prepared_part r j (part_at r j)) row_limit
+        (λ j l. ap (row (resistance_at r j)) (sym (proper_below parts _ (small j))) ∙ sym (port_row j (part_at r j) refl))

@@ -1,7 +1,6 @@
 -- The rows as set-up fills them, before rules 8 and 9 have looked at them.
-use Rattle.std.specs.Prelude.{ℕ, ◌≤◌, ◌≡◌, List, get_or, replicate, Float}
-use Rattle.std.specs.Float.{nan, binary64}
-use Rattle.std.specs.Float.Ieee.{of_bits}
+use Rattle.std.specs.Prelude.{ℕ, ◌≤◌, ◌≡◌, List, get_or}
+use Rattle.std.specs.Float.{nan}
 use Rattle.circuit.specs.Counting.{table}
 use Rattle.circuit.specs.Record.{row_limit, part_at}
 use Rattle.circuit.specs.SetUp.{nothing, leaf_resistance, parts, resistance_at, ratio_at}
@@ -13,15 +12,15 @@ use Rattle.laws.specs.Accepted.{Lower}
 use Rattle.laws.proofs.Formed.{Formed}
 use Rattle.measure.specs.Ratio.{proper, row, joined_row}
 
--- a row from its part and the resistances of the rows below it
-unfoldable pub prepared_from : ℕ → Part → List Float → Prepared
-prepared_from rate Blank Rs = nothing
-prepared_from rate (Leaf e) Rs = row (leaf_resistance rate e) 0
-prepared_from rate (Adaptor a) Rs = joined_row a.join (get_or Rs a.first nan) (get_or Rs a.second nan)
+-- row j of prepared rows
+abbrev pub entry : List Prepared → ℕ → Prepared
+entry rows j = get_or rows j (row nan 0)
 
--- rows from their resistances and ratios
-abbrev pub rows_by : List Float → List ℕ → List Prepared
-rows_by Rs gs = table (λ j. row (get_or Rs j nan) (get_or gs j 0)) row_limit
+-- a row from its part and the rows below it
+unfoldable pub prepared_from : ℕ → Part → List Prepared → Prepared
+prepared_from rate Blank rows = nothing
+prepared_from rate (Leaf e) rows = row (leaf_resistance rate e) 0
+prepared_from rate (Adaptor a) rows = joined_row a.join (entry rows a.first).resistance (entry rows a.second).resistance
 
 -- what filling the rows rests on: what rules 4 and 6 have shown
 pub record Rooted (r : Record) : Type 0 where
@@ -29,12 +28,10 @@ pub record Rooted (r : Record) : Type 0 where
   pub lower : (j : ℕ) → Lower j (part_at r j)
   pub blank : (j : ℕ) → r.count ≤ j → part_at r j ≡ Blank
 
--- no row filled yet
-pub record Zeros (Rs : List Float) (gs : List ℕ) : Type 0 where
-  pub resistances : Rs ≡ replicate row_limit (of_bits binary64 0)
-  pub ratios : gs ≡ replicate row_limit 0
+-- the record's row j, as set-up fills it; a ratio that is not proper is refused by rule 9
+abbrev pub filled_row : Record → ℕ → Prepared
+filled_row r j = row (resistance_at r j) (proper parts (ratio_at r j))
 
--- all rows filled; a ratio that is not proper is refused by rule 9
-pub record Filled (r : Record) (Rs : List Float) (gs : List ℕ) : Type 0 where
-  pub resistances : Rs ≡ table (resistance_at r) row_limit
-  pub ratios : gs ≡ table (λ j. proper parts (ratio_at r j)) row_limit
+-- all rows filled
+abbrev pub Filled : Record → List Prepared → Type 0
+Filled r rows = rows ≡ table (filled_row r) row_limit

@@ -1,128 +1,101 @@
 // Port resistances and ratios in f64, a row after the rows below it, and rules 8, 9 and 11.
 
-ghost use Rattle.std.specs.Prelude.{◌≡◌, not, ◌≤◌, List, get_or};
-ghost use Rattle.std.specs.Float.{nan};
-ghost use Rattle.circuit.specs.Numbers.{handed, unless, lowest};
-ghost use Rattle.circuit.specs.Record.{row_limit};
-ghost use Rattle.circuit.specs.SetUp.{in_range, ratio_fault, fits};
-ghost use Rattle.laws.specs.Accepted.{Lower};
-ghost use Rattle.circuit.specs.declared.Column.{Column};
+ghost use Rattle.std.specs.Prelude.{◌≡◌};
+ghost use Rattle.circuit.specs.Numbers.{handed, done, judge};
+ghost use Rattle.circuit.specs.Record.{row_limit, record_rules};
+ghost use Rattle.circuit.specs.SetUp.{port_resistance_rule, ratio_rule, curve_resistance_rule, port_rules};
+ghost use Rattle.laws.specs.Accepted.{Sized, Lower};
 ghost use Rattle.laws.specs.Numbered.{numbered};
-ghost use Rattle.sheet.specs.Sheet.{rows_in, part_in, record_in};
-ghost use Rattle.setup.specs.Rows.{prepared_from, rows_by, Rooted, Zeros, Filled};
+ghost use Rattle.setup.specs.Rows.{prepared_from, Filled};
 
-use circuit::{Answer, Part, Prepared, ROWS};
+use crate::columns;
+use circuit::{Part, Prepared, ROWS, Record, Refusal};
 use measure::{fits_top, in_range, joined, leaf_resistance, ratio_fault};
-use sheet::{Cells, Heading, Microvolts, Values, part_in};
 
-// A row from the resistances of the rows below it.
+// A row from the rows below it.
 #[tactic(auto, unfolding(laws::specs::Accepted::Lower, crate::specs::Rows::prepared_from))]
-fn prepared_row(rate: u32, p: Part, resistances: &[f64; ROWS]) -> Prepared
+fn prepared_row(rate: u32, p: Part, rows: &[Prepared; ROWS]) -> Prepared
     requires { Lower row_limit p }
-    ensures { result ≡ prepared_from rate p resistances.now }
+    ensures { result ≡ prepared_from rate p rows.now }
 {
     match p {
         Part::Blank => Prepared::blank(),
-        Part::Leaf(e) => {
-            let resistance = leaf_resistance(rate, e);
-            Prepared {
-                resistance,
-                ratio: 0,
-            }
-        }
-        Part::Adaptor(a) => {
-            let join = a.join;
-            joined(
-                join,
-                resistances[a.first as usize],
-                resistances[a.second as usize],
-            )
-        }
+        Part::Leaf(e) => Prepared {
+            resistance: leaf_resistance(rate, e),
+            ratio: 0,
+        },
+        Part::Adaptor(a) => joined(
+            a.join,
+            rows[a.first as usize].resistance,
+            rows[a.second as usize].resistance,
+        ),
     }
 }
 
-// From the lowest row up: an adaptor's children are lower than it. Rows past the count are blank, and keep their zeros.
+// From the lowest row up, of a record that 4 to 7 do not refuse: an adaptor's children are lower than it. Rows past the count stay blank.
+// A goal about a lent record does not see its arrays' lengths: a caller learns them here.
 #[tactic(auto, unfolding(circuit::specs::Counting::table))]
-pub(crate) fn fill_ports(
-    h: Heading,
-    cells: &Cells,
-    microvolts: &Microvolts,
-    values: &Values,
-    resistances: &mut [f64; ROWS],
-    ratios: &mut [u32; ROWS],
-)
-    requires { ((columns : List Column) × Rooted (record_in h (rows_in cells.now microvolts.now values.now) columns))
-        × Zeros resistances.old ratios.old }
-    ensures { (columns : List Column) → Rooted (record_in h
-        (rows_in cells.now microvolts.now values.now) columns)
-        → Filled (record_in h (rows_in cells.now microvolts.now values.now) columns) resistances.new
-        ratios.new }
-{
-    let count = h.count as usize;
-    for j in 0..count {
-        let part = part_in(cells[j], microvolts[j], values[j]);
-        let own = prepared_row(h.rate, part, resistances);
-        resistances[j] = own.resistance;
-        ratios[j] = own.ratio;
-    }
-}
-
-#[tactic(auto, unfolding(circuit::specs::Counting::table))]
-pub(crate) fn prepared_rows(resistances: &[f64; ROWS], ratios: &[u32; ROWS]) -> [Prepared; ROWS]
-    ensures { result ≡ rows_by resistances.now ratios.now }
+pub(crate) fn filled_rows(r: &Record) -> [Prepared; ROWS]
+    requires { judge record_rules r.now ≡ done }
+    ensures sized { Sized r.now }
+    ensures rows { Filled r.now result }
 {
     let mut rows = [Prepared::blank(); ROWS];
-    for j in 0..ROWS {
-        rows[j] = Prepared {
-            resistance: resistances[j],
-            ratio: ratios[j],
-        };
+    for j in 0..r.count as usize {
+        rows[j] = prepared_row(r.rate, r.row(j).part, &rows);
     }
     rows
 }
 
-#[tactic(auto, unfolding(circuit::specs::Numbers::handed))]
-pub(crate) fn resistance_rule(count: u8, resistances: &[f64; ROWS]) -> Answer
-    requires { count ≤ row_limit }
-    ensures { handed result ≡ numbered 8 (lowest (λ j. not (in_range (get_or resistances.now j nan))) count) }
-{
-    for j in 0..count {
-        if !in_range(resistances[j as usize]) {
-            return Answer::Resistance(j);
-        }
-    }
-    Answer::Done
+// A record that 4 to 7 do not refuse, with its filled rows: what 8 to 11 read.
+#[derive(Clone, Copy)]
+pub(crate) struct Ports<'a> {
+    pub(crate) r: &'a Record,
+    pub(crate) rows: &'a [Prepared; ROWS],
+    ghost passed: { judge record_rules r.now ≡ done },
+    ghost sized: { Sized r.now },
+    ghost filled: { Filled r.now rows.now },
 }
 
-#[tactic(auto, unfolding(circuit::specs::Numbers::handed))]
-pub(crate) fn ratio_rule(
-    count: u8,
-    cells: &Cells,
-    microvolts: &Microvolts,
-    values: &Values,
-    ratios: &[u32; ROWS],
-) -> Answer
-    requires { count ≤ row_limit }
-    ensures { handed result ≡ numbered 9 (lowest (λ j. ratio_fault
-        (part_in cells.now microvolts.now values.now j) (get_or ratios.now j 0)) count) }
-{
-    for j in 0..count {
-        let at = j as usize;
-        let part = part_in(cells[at], microvolts[at], values[at]);
-        if ratio_fault(part, ratios[at]) {
-            return Answer::Ratio(j);
+impl Ports<'_> {
+    fn resistance_rule(self) -> Result<(), Refusal>
+        ensures { handed result ≡ numbered 8 (port_resistance_rule self.entry.r.now) }
+    {
+        let rows = self.rows;
+        match (0..self.r.count).find(|j| !in_range(rows[*j as usize].resistance)) {
+            Some(j) => Err(Refusal::Resistance(j)),
+            None => Ok(()),
         }
     }
-    Answer::Done
-}
 
-#[tactic(auto, unfolding(circuit::specs::Numbers::handed))]
-pub(crate) fn curve_resistance_rule(q: f64, top: f64) -> Answer
-    ensures { handed result ≡ numbered 11 (unless (fits q top) 0) }
-{
-    if fits_top(q, top) {
-        Answer::Done
-    } else {
-        Answer::Fit
+    fn ratio_rule(self) -> Result<(), Refusal>
+        ensures { handed result ≡ numbered 9 (ratio_rule self.entry.r.now) }
+    {
+        let (r, rows) = (self.r, self.rows);
+        match (0..r.count).find(|j| ratio_fault(r.row(*j as usize).part, rows[*j as usize].ratio)) {
+            Some(j) => Err(Refusal::Ratio(j)),
+            None => Ok(()),
+        }
+    }
+
+    fn curve_resistance_rule(self) -> Result<(), Refusal>
+        ensures { handed result ≡ numbered 11 (curve_resistance_rule self.entry.r.now) }
+    {
+        let top = self.r.count - 1;
+        if fits_top(self.r.resistance, self.rows[top as usize].resistance) {
+            Ok(())
+        } else {
+            Err(Refusal::Fit)
+        }
+    }
+
+    // 8 to 11.
+    pub(crate) fn judge(self) -> Result<(), Refusal>
+        ensures { handed result ≡ judge port_rules self.entry.r.now }
+    {
+        self.resistance_rule()?;
+        self.ratio_rule()?;
+        columns::column_rule(self.r)?;
+        self.curve_resistance_rule()
     }
 }

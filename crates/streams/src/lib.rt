@@ -16,6 +16,7 @@ pub fn read_full<R: Read>(from: &mut R, bytes: &mut [u8]) -> io::Result<usize>
     ensures size { length bytes.new ≡ length bytes.old }
 {
     let mut count = 0;
+    // No range bounds the turns: each counts as many bytes as have come.
     while count < bytes.len() {
         let more = from.read(&mut bytes[count..])?;
         if more == 0 {
@@ -27,7 +28,8 @@ pub fn read_full<R: Read>(from: &mut R, bytes: &mut [u8]) -> io::Result<usize>
 }
 
 // The program's argument i, of which the first is the program's own name, at the start of the buffer: how many bytes it has, or `None` where
-// there is no such argument. One that is longer than the buffer counts as empty.
+// there is no such argument. One that is longer than the buffer counts as empty. The text itself is not handed back: a proof does not see
+// a buffer again that a result has borrowed, so that `size` would be lost.
 pub fn argument<E: Env>(from: &E, i: usize, bytes: &mut [u8]) -> Option<usize>
     ensures inside { IfSome result (λ n. n ≤ length bytes.new) }
     ensures size { length bytes.new ≡ length bytes.old }

@@ -1,59 +1,36 @@
-// The bytes of a sample that is not whole yet.
-ghost use Rattle.std.specs.Prelude.{◌≤◌, ◌≡◌, cond, [], ◌++◌, length, get_or, take};
+// What a take carries on where every sample of a call is done: the bytes of a sample that is not whole yet.
+ghost use Rattle.std.specs.Prelude.{◌≤◌, ◌≡◌, ◌++◌, length, get_or, take};
 ghost use Rattle.circuit.specs.Take.{left_limit, left_over};
 ghost use Rattle.circuit.specs.File.{zeros};
 
-use circuit::{LEFT_LIMIT, SAMPLE_LENGTH};
-
-// They come first, with zeros after them.
-#[derive(Clone, Copy)]
-pub(crate) struct Rest {
-    pub bytes: [u8; LEFT_LIMIT],
-    pub count: u8,
-}
+use circuit::{Carried, SAMPLE_LENGTH, State};
 
 // The byte at a place of those left over before and the new ones, and 0 past them.
-fn byte_at(left: [u8; LEFT_LIMIT], count: usize, more: &[u8], at: usize) -> u8
-    requires { count ≤ left_limit }
-    ensures { result ≡ get_or (take count left ++ more.now) at 0 }
+fn byte_at(left: &[u8], more: &[u8], at: usize) -> u8
+    ensures { result ≡ get_or (left.now ++ more.now) at 0 }
 {
-    if at < count {
-        return left[at];
-    }
-    if at - count < more.len() {
-        return more[at - count];
-    }
-    0
-}
-
-// What is left over after the last whole sample.
-fn left_over(left: [u8; LEFT_LIMIT], count: usize, more: &[u8]) -> Rest
-    requires { count ≤ left_limit }
-    ensures bytes { result.bytes ≡ take left_limit (left_over (take count left ++ more.now) ++ zeros left_limit) }
-    ensures count { result.count ≡ length (left_over (take count left ++ more.now)) }
-{
-    let whole = (count + more.len()) / SAMPLE_LENGTH;
-    let at = SAMPLE_LENGTH * whole;
-    let first = byte_at(left, count, more, at);
-    let second = byte_at(left, count, more, at + 1);
-    Rest {
-        bytes: [first, second],
-        count: (count + more.len() - at) as u8,
+    match left.get(at) {
+        Some(byte) => *byte,
+        None => more.get(at - left.len()).copied().unwrap_or(0),
     }
 }
 
-// What a call leaves over: nothing after a refused sample.
-pub(crate) fn left_after(all: bool, left: [u8; LEFT_LIMIT], count: usize, more: &[u8]) -> Rest
-    requires { count ≤ left_limit }
-    ensures bytes { result.bytes ≡ take left_limit (cond all (left_over (take count left ++ more.now)) [] ++ zeros left_limit) }
-    ensures count { result.count ≡ length (cond all (left_over (take count left ++ more.now)) []) }
+// The bytes after the last whole sample come first, with zeros after them.
+pub(crate) fn carried_on(state: State, left: &[u8], more: &[u8], done: u64) -> Carried
+    requires { length left.now ≤ left_limit }
+    ensures state { result.state ≡ state }
+    ensures left { result.left ≡ take left_limit (left_over (left.now ++ more.now) ++ zeros left_limit) }
+    ensures count { result.count ≡ length (left_over (left.now ++ more.now)) }
+    ensures done { result.done ≡ done }
+    ensures held { result.held ≡ 0 }
 {
-    if all {
-        left_over(left, count, more)
-    } else {
-        Rest {
-            bytes: [0; LEFT_LIMIT],
-            count: 0,
-        }
+    let available = left.len() + more.len();
+    let at = SAMPLE_LENGTH * (available / SAMPLE_LENGTH);
+    Carried {
+        state,
+        left: [byte_at(left, more, at), byte_at(left, more, at + 1)],
+        count: (available - at) as u8,
+        done,
+        held: 0,
     }
 }

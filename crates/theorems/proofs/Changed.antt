@@ -17,7 +17,7 @@ use Rattle.circuit.specs.SetUp.{set_up_report}
 use Rattle.circuit.specs.Curve.{wave_limit, reflected, segment}
 use Rattle.circuit.specs.Sample.{Rounding, whole_waves, rounding_of, rounded, turned, risen, reached, arriving, kept, output, Sampled, refused, finished, stored_at, in_limit, sampled}
 use Rattle.circuit.specs.Run.{Played, play, leading, stored_waves_rule, lengths_rule, Call, call, charged, run_rules, ran}
-use Rattle.circuit.specs.Promises.{Runs}
+use Rattle.circuit.specs.Promises.{Runs, shown_segment}
 use Rattle.circuit.specs.declared.Record.{Record}
 use Rattle.circuit.specs.declared.Progress.{Progress}
 use Rattle.laws.proofs.Counting.{every_same}
@@ -150,7 +150,7 @@ module _ (turn : ℤ → ℤ) (carry : List ℤ → List ℤ) (silence : turn (p
       record {
         number = runs'.number ∙ h.handed_back ∙ sym runs.number;
         samples = done;
-        segment = runs'.segment ∙ h.segment ∙ sym runs.segment;
+        segment = runs'.segment ∙ ap shown_segment h.segment ∙ sym runs.segment;
         waves = runs'.waves ∙ h.waves ∙ ap carry (sym runs.waves);
         outputs = λ i l.
             sym (get_or-take p.done out' i (pos 0) l) ∙ ap₂ (λ s d. get_or s i d) outputs (sym silence)

@@ -9,15 +9,18 @@ use mathlib.Core.Bool.{Bool, true, false}
 use lib.Dec.{lit≤}
 use lib.ListN.{get_or}
 use lib.IntN.{nat_abs}
+use Rattle.std.specs.Prelude.{Result, Ok, Err}
 use Rattle.whole.specs.Order.{zarith, Abs}
 use Rattle.circuit.specs.Counting.{table}
-use Rattle.circuit.specs.Numbers.{handed, done, passes}
+use Rattle.circuit.specs.Numbers.{done, passes, told}
 use Rattle.circuit.specs.Record.{column_limit, column_at, is_set}
 use Rattle.circuit.specs.SetUp.{set_up_report, curve_resistance_rule}
 use Rattle.circuit.specs.Curve.{wave_limit, column_rule}
-use Rattle.circuit.specs.Knee.{Knob, x_at, knee_column, sound_knob, built_kind, built_width, built_columns}
+use Rattle.circuit.specs.Knee.{x_at, knee_column, sound_knob, built_kind, built_width, built_columns}
+use Rattle.circuit.specs.declared.Knob.{Knob}
 use Rattle.circuit.specs.Promises.{Builds}
-use Rattle.circuit.specs.declared.Answer.TheVariants.{Done, Voltage}
+use Rattle.circuit.specs.declared.Refusal.{Refusal}
+use Rattle.circuit.specs.declared.Refusal.TheVariants.{Voltage}
 use Rattle.circuit.specs.declared.Built.{Built}
 use Rattle.circuit.specs.declared.CurveKind.TheVariants.{Pair}
 use Rattle.circuit.specs.declared.Record.{Record}
@@ -25,45 +28,44 @@ use Rattle.laws.specs.Accepted.{origin, Crosses, Drawn}
 use Rattle.laws.proofs.Counting.{get_or-table}
 use Rattle.laws.proofs.Judging.{zero_passed, passed_done}
 use Rattle.laws.proofs.Columns.{drawn_passes}
-use Rattle.laws.proofs.Knee.{report_built, report_refused, if_built_lem, if_refused, turned, placed, neighbours}
+use Rattle.laws.proofs.Refusals.{one_refusal}
+use Rattle.laws.proofs.Trying.{told_undone}
+use Rattle.laws.proofs.Knee.{report_built, report_refused, if_built_lem, turned, placed, neighbours}
 use Rattle.laws.proofs.OtherCurve.{fit_same, still_passed}
 use Rattle.theorems.specs.Curve.{Tame}
 use Rattle.theorems.specs.Knee.{Whole, Nothing, Holds, put_in}
 use Rattle.theorems.proofs.Curve.{drawn_tame}
-use Rattle.theorems.proofs.OneAnswer.{one_answer}
 
 -- ---- whole or not at all
 
-module _ (k : Knob) (b : Built) (h : Builds k b) where
-  is_whole : sound_knob k ≡ true → Whole k b
-  unfolding built_kind built_width built_columns handed
-  is_whole e = record {
-    answer = one_answer b.answer Done (h.number ∙ report_built k e) refl;
+module _ (k : Knob) where
+  is_whole : (s : Result Built Refusal) → Builds k s → sound_knob k ≡ true → Whole k s
+  unfolding built_kind built_width built_columns
+  is_whole (Ok b) h e = record {
+    curve = b;
+    answer = refl;
     kind = h.kind ∙ if_built_lem k _ _ e;
     width = h.width ∙ if_built_lem k _ _ e;
     columns = h.columns ∙ if_built_lem k _ _ e;
   }
+  is_whole (Err d) h e = absurd (told_undone d (h.number ∙ report_built k e))
 
-  is_nothing : sound_knob k ≡ false → Nothing b
-  unfolding built_kind built_width built_columns handed
-  is_nothing e = record {
-    answer = one_answer b.answer Voltage (h.number ∙ report_refused k e) refl;
-    kind = h.kind ∙ if_refused k _ _ e;
-    width = h.width ∙ if_refused k _ _ e;
-    columns = h.columns ∙ if_refused k _ _ e;
-  }
+  is_nothing : (s : Result Built Refusal) → Builds k s → sound_knob k ≡ false → Nothing s
+  unfolding told
+  is_nothing (Ok b) h e = absurd (let same = ap (λ n. n.number) (h.number ∙ report_refused k e) in let none : ⊥ = omega arith in none)
+  is_nothing (Err d) h e = record { answer = ap Err (one_refusal d Voltage (h.number ∙ report_refused k e) refl) }
 
-  pub whole_or_nothing : Whole k b ⊎ Nothing b
-  whole_or_nothing = by (sound_knob k) refl
+  pub whole_or_nothing : (s : Result Built Refusal) → Builds k s → Whole k s ⊎ Nothing s
+  whole_or_nothing s h = by (sound_knob k) refl
     where
-      by : (s : Bool) → sound_knob k ≡ s → Whole k b ⊎ Nothing b
-      by true e = inl (is_whole e)
-      by false e = inr (is_nothing e)
+      by : (t : Bool) → sound_knob k ≡ t → Whole k s ⊎ Nothing s
+      by true e = inl (is_whole s h e)
+      by false e = inr (is_nothing s h e)
 
-  pub done_sound : (handed b.answer).number ≡ 0 → sound_knob k ≡ true
-  done_sound z = by (sound_knob k) refl
+  pub done_sound : {b : Built} → Builds k (Ok b) → sound_knob k ≡ true
+  done_sound {b} h = by (sound_knob k) refl
     where
-      by : (s : Bool) → sound_knob k ≡ s → sound_knob k ≡ true
+      by : (t : Bool) → sound_knob k ≡ t → sound_knob k ≡ true
       by true e = e
       by false e = absurd (let same = ap (λ n. n.number) (h.number ∙ report_refused k e) in let none : ⊥ = omega arith in none)
 
@@ -95,12 +97,13 @@ module _ (k : Knob) (e : sound_knob k ≡ true) (r : Record) (kind : r.kind ≡ 
     small = λ i l. let m = rw width at l in rw (column_is i m) (small i m);
   }
 
-module _ (k : Knob) (b : Built) (h : Builds k b) (finished : (handed b.answer).number ≡ 0) where
+module _ (k : Knob) (b : Built) (h : Builds k (Ok b)) where
   built_drawn : (r : Record) → Holds r b → Drawn r
+  unfolding built_kind built_width built_columns
   built_drawn r c =
-      let sound = done_sound k b h finished in
-      let w = is_whole k b h sound in
-      curve_drawn k sound r (c.kind ∙ w.kind) (c.width ∙ w.width) (c.columns ∙ w.columns)
+      let sound = done_sound k h in
+      curve_drawn k sound r (c.kind ∙ h.kind ∙ if_built_lem k _ _ sound) (c.width ∙ h.width ∙ if_built_lem k _ _ sound)
+      (c.columns ∙ h.columns ∙ if_built_lem k _ _ sound)
 
   pub built_accepted : (r : Record) → Holds r b → column_rule r ≡ passes
   built_accepted r c = drawn_passes r (built_drawn r c)
@@ -111,10 +114,11 @@ module _ (k : Knob) (b : Built) (h : Builds k b) (finished : (handed b.answer).n
   -- ---- in an accepted circuit
 
   pub still_accepted : (r : Record) → (set_up_report r).number ≡ 0 → set_up_report (put_in r b) ≡ done
+  unfolding built_kind built_width
   still_accepted r ok =
-      let w = is_whole k b h (done_sound k b h finished) in
+      let sound = done_sound k h in
       passed_done (put_in r b)
-      (still_passed r b.kind b.width b.columns (zero_passed r ok) (ap is_set w.kind) w.width
+      (still_passed r b.kind b.width b.columns (zero_passed r ok) (ap is_set (h.kind ∙ if_built_lem k _ _ sound)) (h.width ∙ if_built_lem k _ _ sound)
       (built_accepted (put_in r b) (record { kind = refl; width = refl; columns = refl })))
 
 -- whatever the curve, rule 11 says of the circuit what it said

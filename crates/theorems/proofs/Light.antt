@@ -1,6 +1,9 @@
 -- THE LIGHT. The segment is the one whose line answers the wave. Segments are counted from the left, so that no column passed is lost as a wave
 -- rises; a pair's first column is passed by every magnitude. The segment that a run hands back is the one that its last finished sample's wave used,
 -- and 255 is never one.
+use Rattle.std.specs.Prelude.{Bool, true, false, cond, eqb, None, Some}
+use Rattle.std.proofs.Common.{ne_eqb}
+use Rattle.std.proofs.lemmas.Bool.{eqb-true}
 use Prim.Native.Nat.{ℕ, zero, suc, ◌<◌, ◌≤◌}
 use native.Mathlib.Omega.{arith}
 use mathlib.Core.Path.{◌≡◌, refl, sym, ap, ◌∙◌}
@@ -14,7 +17,7 @@ use Rattle.circuit.specs.Numbers.{passes, judge}
 use Rattle.circuit.specs.Record.{column_limit, column_at, form_rule}
 use Rattle.circuit.specs.Curve.{column_rule, piece, drawn, line_of, line, toward_zero, reflected, taken_on, segment}
 use Rattle.circuit.specs.Run.{Played, play, Call, run_rules, no_segment, ran}
-use Rattle.circuit.specs.Promises.{Runs}
+use Rattle.circuit.specs.Promises.{Runs, shown_segment, segment_number}
 use Rattle.circuit.specs.declared.CurveKind.{CurveKind}
 use Rattle.circuit.specs.declared.CurveKind.TheVariants.{Unset, Single, Pair}
 use Rattle.circuit.specs.declared.Progress.{Progress}
@@ -29,7 +32,7 @@ use Rattle.laws.proofs.Segments.{passed_rises, passed_most, passed_none, segment
 use Rattle.laws.proofs.Playing.{finished_means, play_at, play_segments}
 use Rattle.laws.proofs.Running.{zero_allowed, ran_refused, ran_worked}
 use Rattle.theorems.specs.Limit.{waves_after}
-use Rattle.theorems.specs.Light.{Used, Graded, hit, Shows}
+use Rattle.theorems.specs.Light.{Used, Graded, hit, Shows, Lit}
 use Rattle.theorems.proofs.RunBound.{judged}
 
 -- ---- the segment that is used
@@ -110,6 +113,24 @@ module _ (c : Call) where
           let a = accepting c.circuit sized (zero_allowed c z).cleared.set_up in
           rw (last z i e) ((drawn_graded a.drawn a.wide).most (hit c i))
 
--- by what a run promises
-pub run_shows : (c : Call) (p : Progress) (after : List ℤ) → Runs c p after → Sized c.circuit → Shows c p.done p.segment
-run_shows c p after runs sized = rw (runs.samples, runs.segment) (ran_shows c sized)
+-- by what a run promises, in the paper's number, and as a segment or none
+number_shown : (n : ℕ) → segment_number (shown_segment n) ≡ n
+number_shown n = by (eqb n no_segment) refl
+  where
+    by : (none : Bool) → eqb n no_segment ≡ none → segment_number (cond none None (Some n)) ≡ n
+    by true e = sym (eqb-true n no_segment e)
+    by false e = refl
+
+module _ (c : Call) (p : Progress) (after : List ℤ) (runs : Runs c p after) (sized : Sized c.circuit) where
+  pub run_shows : Shows c p.done (segment_number p.segment)
+  run_shows = rw (runs.samples, runs.segment, number_shown (ran c).segment) (ran_shows c sized)
+
+  pub run_lit : Lit c p.done p.segment
+  run_lit = let shows : Shows c p.done (ran c).segment = rw runs.samples (ran_shows c sized) in record {
+    none = λ e. runs.segment ∙ rw (shows.none e) refl;
+    last = λ i e.
+        let told = shows.last i e in
+        let few = shows.apart (omega arith) in
+        let other : eqb (ran c).segment no_segment ≡ false = ne_eqb (ran c).segment no_segment (λ s. omega arith) in
+        runs.segment ∙ rw (other, told) refl;
+  }

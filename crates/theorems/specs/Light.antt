@@ -1,5 +1,5 @@
 -- What a conduction light shows (request 7): the segments of a curve, and the segment that a run hands back.
-use Rattle.std.specs.Prelude.{ℕ, suc, ◌<◌, ◌≤◌, ◌≡◌, get_or, ℤ, pos, neg_ℤ, nat_abs, ◌<ℤ◌, ◌≤ℤ◌}
+use Rattle.std.specs.Prelude.{ℕ, suc, ◌<◌, ◌≤◌, ◌≡◌, get_or, ℤ, pos, neg_ℤ, nat_abs, ◌<ℤ◌, ◌≤ℤ◌, Option, None, Some}
 use Rattle.whole.specs.Fraction.{whole}
 use Rattle.circuit.specs.Record.{column_limit, column_at}
 use Rattle.circuit.specs.Curve.{piece, toward_zero, reflected, segment}
@@ -37,3 +37,8 @@ pub record Shows (c : Call) (samples told : ℕ) : Type 0 where
   pub last : (i : ℕ) → samples ≡ suc i → told ≡ segment c.circuit (hit c i)
   -- so 255 is told only where no sample is done
   pub apart : 0 < samples → told ≤ column_limit
+
+-- the same in a run's words, which has no segment to show where no sample is done
+pub record Lit (c : Call) (samples : ℕ) (shown : Option ℕ) : Type 0 where
+  pub none : samples ≡ 0 → shown ≡ None
+  pub last : (i : ℕ) → samples ≡ suc i → shown ≡ Some (segment c.circuit (hit c i))

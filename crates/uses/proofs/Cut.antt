@@ -5,19 +5,21 @@ use native.Mathlib.Omega.{arith}
 use borrow.Author.Tests.{eq-eqb, ne_eqb}
 use borrow.Rule.Slice.PartMut.{mid_of, put_mid}
 use mathlib.Core.Path.{◌≡◌, refl, sym, ap, ap₂, ◌∙◌}
-use mathlib.Core.Bool.{cond}
+use mathlib.Core.Bool.{Bool, true, false, true≢false, cond}
 use mathlib.Core.List.{List, ◌++◌, append-nil}
 use lib.Dec.{eqb}
 use lib.ListN.{length, take, drop, length-drop, take-append-drop, drop_of_length-le}
 use lib.Seq.{length-take-le, take_all, take_at, drop_at}
 use lib.IntN.{ℤ}
-use Rattle.circuit.specs.Numbers.{handed, judge}
+use Rattle.std.specs.Prelude.{Result, Ok, Err, is_err, ⊤, Option}
+use Rattle.circuit.specs.Numbers.{judge, handed}
 use Rattle.circuit.specs.Run.{Call, call, play, run_rules, Ran, report_after, ran}
-use Rattle.circuit.specs.Promises.{Runs}
-use Rattle.circuit.specs.declared.Answer.{Answer}
+use Rattle.circuit.specs.Promises.{shown_segment, Runs}
+use Rattle.circuit.specs.declared.Refusal.{Refusal}
 use Rattle.circuit.specs.declared.Progress.{Progress}
 use Rattle.circuit.specs.declared.Record.{Record}
 use Rattle.laws.proofs.Playing.{play_short}
+use Rattle.laws.proofs.Trying.{told_above}
 use Rattle.laws.proofs.Running.{zero_allowed, allowed_done, ran_refused, ran_worked}
 use Rattle.theorems.specs.Pieces.{later, both, alone, in_turn}
 use Rattle.theorems.proofs.Cutting.{cut}
@@ -42,6 +44,14 @@ module _ {A : Type 0} (at : ℕ) where
 
 -- ---- a call that is done
 
+pub refused_told : (s : Result ⊤ Refusal) → is_err s ≡ true → (handed s).number ≡ 0 → ⊥
+refused_told (Ok a) e z = true≢false (sym e)
+refused_told (Err d) e z = let above = told_above d in omega arith
+
+pub done_told : (s : Result ⊤ Refusal) → is_err s ≡ false → (handed s).number ≡ 0
+done_told (Ok a) e = refl
+done_told (Err d) e = absurd (true≢false e)
+
 after_place : (n k : ℕ) → (report_after n k).place ≤ n
 after_place n zero = omega arith
 after_place n (suc k) = omega arith
@@ -65,6 +75,10 @@ module _ (c : Call) where
       rw (ran_worked c j) (omega (arith, after_place (length p.outputs) p.number, play_short c.circuit c.waves c.input))
 
 -- ---- the two calls
+
+pub shown_later : (t : Bool) (m n : ℕ) → shown_segment (cond t m n) ≡ cond t (shown_segment m) (shown_segment n)
+shown_later true m n = refl
+shown_later false m n = refl
 
 -- the first call of a run that is cut, which may be refused
 pub record First (r : Record) (ws xs os : List ℤ) (at : ℕ) (p : Progress) (o : List ℤ) : Type 0 where
@@ -101,7 +115,7 @@ module _ {r : Record} {ws xs os : List ℤ} {at : ℕ} {p : Progress} {o : List 
     one_refused = record {
       number = first.runs.number ∙ sym (ap (λ (s : Ran). s.handed_back) left_off);
       samples = first.runs.samples ∙ sym (ap (λ (s : Ran). s.samples) left_off);
-      segment = first.runs.segment ∙ sym (ap (λ (s : Ran). s.segment) left_off);
+      segment = first.runs.segment ∙ sym (ap (λ (s : Ran). shown_segment s.segment) left_off);
       waves = first.runs.waves ∙ sym (ap (λ (s : Ran). s.waves) left_off);
       output = ap (λ (l : List ℤ). l ++ drop at os) first.runs.output ∙ sym (ap (λ (s : Ran). s.output) left_off);
     }
@@ -121,8 +135,11 @@ module _ {r : Record} {ws xs os : List ℤ} {at : ℕ} {p : Progress} {o : List 
     counted : (ran whole).samples ≡ p.done + q.done
     counted = ap (λ (s : Ran). s.samples) went_on ∙ rw (first.runs.samples, second.samples) refl
 
-    lit : (ran whole).segment ≡ cond (eqb q.done 0) p.segment q.segment
-    lit = ap (λ (s : Ran). s.segment) went_on ∙ rw (second.samples, first.runs.segment, second.segment) refl
+    lit : shown_segment (ran whole).segment ≡ cond (eqb q.done 0) p.segment q.segment
+    lit =
+        ap (λ (s : Ran). shown_segment s.segment) went_on
+        ∙ shown_later (eqb (ran (back p.state.waves)).samples 0) (ran front).segment (ran (back p.state.waves)).segment
+        ∙ rw (second.samples, first.runs.segment, second.segment) refl
 
     judged : (judge run_rules whole).number ≡ 0
     judged =
@@ -135,7 +152,7 @@ module _ {r : Record} {ws xs os : List ℤ} {at : ℕ} {p : Progress} {o : List 
     pub done_inside : p.done + q.done ≤ length xs
     done_inside = rw (← counted) (ran_short whole judged)
 
-    pub both_done : (a : Answer) → handed a ≡ later p.done (handed q.answer) → (s : ℕ) → s ≡ cond (eqb q.done 0) p.segment q.segment
+    pub both_done : (a : Result ⊤ Refusal) → handed a ≡ later p.done (handed q.answer) → (s : Option ℕ) → s ≡ cond (eqb q.done 0) p.segment q.segment
         → Runs whole (record { answer = a; done = p.done + q.done; segment = s; state = q.state }) (o ++ o₂)
     both_done a e s f = record {
       number = e ∙ sym told;

@@ -9,9 +9,10 @@ use mathlib.Core.List.{List, [], ◌∷◌, ◌++◌, append_assoc, append-nil}
 use lib.Dec.{eqb, leb}
 use lib.ListN.{length, take, drop, length-append, length-drop, take-append-drop}
 use lib.Seq.{length-take-le}
+use Rattle.std.specs.Prelude.{Option}
 use Rattle.circuit.specs.Numbers.{judge}
 use Rattle.circuit.specs.Take.{sample_length, output_length, left_limit, take_limit, samples_of, left_over, take_of, take_rules, Feeding, feeding, available, taken, fed}
-use Rattle.circuit.specs.Promises.{Feeds}
+use Rattle.circuit.specs.Promises.{shown_segment, Feeds}
 use Rattle.circuit.specs.declared.Carried.{Carried}
 use Rattle.circuit.specs.declared.Feed.{Feed}
 use Rattle.circuit.specs.declared.Record.{Record}
@@ -23,6 +24,7 @@ use Rattle.theorems.proofs.Takes.{one_call}
 use Rattle.takes.specs.Own.{room_for}
 use Rattle.takes.proofs.Deciding.{whole_samples}
 use Rattle.uses.specs.Promises.{can_cut}
+use Rattle.uses.proofs.Cut.{shown_later}
 
 -- ---- a call that can be cut
 
@@ -121,12 +123,16 @@ module _ (r : Record) {c : Carried} {s o : List ℕ} {at : ℕ} (h : Cuttable c 
     pub done_inside : p.done + q.done ≤ take_limit
     done_inside = rw (← counted) (omega (arith, whole_short, many s, h.limit))
 
-    pub both_done : (n : ℕ) → n ≡ cond (eqb q.done 0) p.segment q.segment
+    pub both_done : (n : Option ℕ) → n ≡ cond (eqb q.done 0) p.segment q.segment
         → Feeds whole (record { answer = q.answer; done = p.done + q.done; segment = n; carried = q.carried }) (after ++ after₂)
     both_done n e = record {
       number = second.number ∙ sym (ap (λ (x : Outcome). x.handed_back) both);
       samples = sym counted;
-      segment = e ∙ sym (ap (λ (x : Outcome). x.segment) both ∙ rw (second.samples, first.segment, second.segment) refl);
+      segment = e
+          ∙ sym
+          (ap (λ (x : Outcome). shown_segment x.segment) both
+          ∙ shown_later (eqb (fed (back p.carried)).samples 0) (fed front).segment (fed (back p.carried)).segment
+          ∙ rw (second.samples, first.segment, second.segment) refl);
       carried = second.carried ∙ sym (ap (λ (x : Outcome). x.carried) both);
       room = ap₂ (λ (x y : List ℕ). x ++ y) first.room second.room ∙ sym (ap (λ (x : Outcome). x.room) both);
     }

@@ -1,15 +1,14 @@
 -- What the uses promise: the theorems of reading and writing and of a run, said of what is handed back and left; and where a take can be cut.
-use Rattle.std.specs.Prelude.{ℕ, ◌+◌, ◌/◌, ◌<◌, ◌≡◌, Bool, ◌&&◌, cond, List, [], ◌∷◌, ◌++◌, eqb, leb, get_or, ℤ, pos}
-use Rattle.circuit.specs.Numbers.{Rule, handed, rule, judge, of}
+use Rattle.std.specs.Prelude.{Result, IfOk, ⊤, ℕ, ◌+◌, ◌/◌, ◌<◌, ◌≡◌, Bool, ◌&&◌, cond, List, [], ◌∷◌, ◌++◌, eqb, leb, get_or, ℤ, pos}
+use Rattle.circuit.specs.Numbers.{Rule, rule, judge, of, handed}
 use Rattle.circuit.specs.SetUp.{set_up_report}
-use Rattle.circuit.specs.File.{no_record, file_length_rule, read_rules}
+use Rattle.circuit.specs.File.{file_length_rule, read_rules}
 use Rattle.circuit.specs.Run.{Call}
 use Rattle.circuit.specs.Take.{sample_length, left_limit, take_limit}
 use Rattle.circuit.specs.Promises.{Runs}
-use Rattle.circuit.specs.declared.Answer.{Answer}
 use Rattle.circuit.specs.declared.Carried.{Carried}
 use Rattle.circuit.specs.declared.Record.{Record}
-use Rattle.circuit.specs.declared.Reading.{Reading}
+use Rattle.circuit.specs.declared.Refusal.{Refusal}
 use Rattle.circuit.specs.declared.Progress.{Progress}
 use Rattle.theorems.specs.Limit.{waves_after, Bounded}
 use Rattle.takes.specs.Own.{room_for}
@@ -26,16 +25,16 @@ unfoldable pub rewrite_rules : List (Rule RewriteCall)
 rewrite_rules = of (λ w. w.file) read_rules ++ (rule 1 (λ w. file_length_rule w.buffer) ∷ [])
 
 -- the very bytes that were read, or the buffer as it was
-pub record Rewrites (w : RewriteCall) (a : Answer) (after : List ℕ) : Type 0 where
-  pub number : handed a ≡ judge rewrite_rules w
+pub record Rewrites (w : RewriteCall) (s : Result ⊤ Refusal) (after : List ℕ) : Type 0 where
+  pub number : handed s ≡ judge rewrite_rules w
   pub buffer : after ≡ cond (eqb (judge rewrite_rules w).number 0) w.file w.buffer
 
 -- ---- a record written, and its file read
 
--- the very record that was written, or the one of zeros
-pub record Rereads (r : Record) (s : Reading) : Type 0 where
-  pub number : handed s.answer ≡ set_up_report r
-  pub circuit : s.«record» ≡ cond (eqb (set_up_report r).number 0) r no_record
+-- the very record that was written
+pub record Rereads (r : Record) (s : Result Record Refusal) : Type 0 where
+  pub number : handed s ≡ set_up_report r
+  pub circuit : IfOk s (λ c. c ≡ r)
 
 -- ---- a call of a take that can be cut
 

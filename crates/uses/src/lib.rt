@@ -3,30 +3,26 @@
 #![tactic(auto)]
 
 ghost use Rattle.std.specs.Prelude.{◌≡◌, cond, ◌<◌, ◌^◌, eqb, length};
-ghost use Rattle.circuit.specs.Numbers.{handed};
+ghost use Rattle.circuit.specs.Numbers.{told};
 ghost use Rattle.circuit.specs.File.{file_length, zeros};
 ghost use Rattle.circuit.specs.Run.{call};
 ghost use Rattle.circuit.specs.Take.{feeding};
 ghost use Rattle.circuit.specs.Promises.{Runs, Feeds};
+ghost use Rattle.file.specs.Held.{Held};
 ghost use Rattle.theorems.specs.Pieces as Pieces;
 ghost use Rattle.uses.specs.Promises.{Rewrites, Rereads, can_cut, RunsBounded};
 
 use circuit::{
-    Answer, Carried, FILE_LENGTH, Feed, LEFT_LIMIT, OUTPUT_LENGTH, Progress, Reading, Record,
+    Carried, FILE_LENGTH, Feed, LEFT_LIMIT, OUTPUT_LENGTH, Progress, Record, Refusal,
     SAMPLE_LENGTH, State, TAKE_LIMIT,
 };
 
 // Reading and then writing gives the same bytes: an accepted file is written as it was read, and a refused one leaves `out` as it is.
-pub fn rewrite(bytes: &[u8], out: &mut [u8]) -> Answer
+pub fn rewrite(bytes: &[u8], out: &mut [u8]) -> Result<(), Refusal>
     ensures { Rewrites (record { file = bytes.now; buffer = out.old }) result out.new }
 {
-    let reading = file::read(bytes);
-    let judged = reading.answer;
-    if judged.number() != 0 {
-        return judged;
-    }
-    let record = reading.record;
-    file::write(record, out)
+    let circuit = file::read(bytes)?;
+    file::write(&circuit, out)
 }
 
 fn blank_page() -> [u8; FILE_LENGTH]
@@ -35,33 +31,40 @@ fn blank_page() -> [u8; FILE_LENGTH]
     [0; FILE_LENGTH]
 }
 
-// Writing and then reading gives the same record, every f64 bit for bit. A refused record leaves the page blank, and a blank page holds no
-// record.
-pub fn reread(r: Record) -> Reading
-    ensures { Rereads r result }
+// A record, with what it has by its type: an array its length, and a number its range.
+fn own(r: Record) -> Record
+    ensures same { result ≡ r }
+    ensures held { Held result }
 {
-    let mut page = blank_page();
-    let answer = file::write(r, &mut page);
-    let reading = file::read(&page);
-    let record = reading.record;
-    Reading { answer, record }
+    r
 }
 
-// An answer of samples that begin `at` after the first.
-#[tactic(auto, unfolding(circuit::specs::Numbers::handed))]
-fn later(at: usize, answer: Answer) -> Answer
-    requires { (Pieces.later at (handed answer)).place < 2 ^ 64 }
-    ensures { handed result ≡ Pieces.later at (handed answer) }
+// Writing and then reading gives the same record, every f64 bit for bit. Of a refused record no file is written, and none is read.
+pub fn reread(r: &Record) -> Result<Record, Refusal>
+    ensures { Rereads r.now result }
 {
-    match answer {
-        Answer::Sample(index) => Answer::Sample(at + index),
-        Answer::Overload(index) => Answer::Overload(at + index),
-        _ => answer,
+    let circuit = own(*r);
+    let mut page = blank_page();
+    file::write(&circuit, &mut page)?;
+    file::read(&page)
+}
+
+// A refusal of samples that begin `at` after the first.
+#[tactic(auto, unfolding(circuit::specs::Numbers::told))]
+fn later(at: usize, refusal: Refusal) -> Refusal
+    requires { (Pieces.later at (told refusal)).place < 2 ^ 64 }
+    ensures { told result ≡ Pieces.later at (told refusal) }
+{
+    match refusal {
+        Refusal::Sample(index) => Refusal::Sample(at + index),
+        Refusal::Overload(index) => Refusal::Overload(at + index),
+        _ => refusal,
     }
 }
 
-// The segment of two calls: of the later, unless it finished no sample.
-fn last_segment(first: u8, done: usize, second: u8) -> u8
+// The segment of two calls: of the later, unless it finished no sample. Not `second.or(first)`: that would rest on a theorem, that a finished
+// sample shows a segment, where this rests on the promise alone.
+fn last_segment(first: Option<u8>, done: usize, second: Option<u8>) -> Option<u8>
     ensures { result ≡ cond (eqb done 0) first second }
 {
     if done == 0 { first } else { second }
@@ -69,29 +72,30 @@ fn last_segment(first: u8, done: usize, second: u8) -> u8
 
 // Cutting a run changes nothing: a run in two calls, cut at sample `at`, promises what one call does. Lengths that differ, and a cut past the
 // input, are one call.
-pub fn run_in_two(r: Record, state: State, input: &[i32], output: &mut [i32], at: usize) -> Progress
-    ensures { Runs (call r state.waves input.now output.old) result output.new }
+pub fn run_in_two(
+    r: &Record,
+    state: State,
+    input: &[i32],
+    output: &mut [i32],
+    at: usize,
+) -> Progress
+    ensures { Runs (call r.now state.waves input.now output.old) result output.new }
 {
     if (input.len() != output.len()) | (input.len() < at) {
         return engine::run(r, state, input, output);
     }
     let first = engine::run(r, state, &input[..at], &mut output[..at]);
-    let answer = first.answer;
-    if answer.number() != 0 {
+    if first.answer.is_err() {
         return first;
     }
-    let between = first.state;
-    let second = engine::run(r, between, &input[at..], &mut output[at..]);
-    let told = second.answer;
-    let answer = later(first.done, told);
-    let done = first.done + second.done;
-    let segment = last_segment(first.segment, second.done, second.segment);
-    let state = second.state;
+    let second = engine::run(r, first.state, &input[at..], &mut output[at..]);
     Progress {
-        answer,
-        done,
-        segment,
-        state,
+        answer: second
+            .answer
+            .map_err(move |refusal| later(first.done, refusal)),
+        done: first.done + second.done,
+        segment: last_segment(first.segment, second.done, second.segment),
+        state: second.state,
     }
 }
 
@@ -111,8 +115,8 @@ fn can_cut(carried: Carried, bytes: &[u8], room: usize, at: usize) -> bool
 
 // Cutting a call of a take changes nothing: a call in two calls, cut at byte `at`, which may be inside a sample, promises what one call does.
 // Where the first call is refused, the second is refused alike.
-pub fn feed_in_two(r: Record, carried: Carried, bytes: &[u8], out: &mut [u8], at: usize) -> Feed
-    ensures { Feeds (feeding r carried bytes.now out.old) result out.new }
+pub fn feed_in_two(r: &Record, carried: Carried, bytes: &[u8], out: &mut [u8], at: usize) -> Feed
+    ensures { Feeds (feeding r.now carried bytes.now out.old) result out.new }
 {
     if !can_cut(carried, bytes, out.len(), at) {
         return takes::feed(r, carried, bytes, out);
@@ -120,23 +124,19 @@ pub fn feed_in_two(r: Record, carried: Carried, bytes: &[u8], out: &mut [u8], at
     let count = carried.count as usize;
     let cut = OUTPUT_LENGTH * ((count + at) / SAMPLE_LENGTH);
     let first = takes::feed(r, carried, &bytes[..at], &mut out[..cut]);
-    let between = first.carried;
-    let second = takes::feed(r, between, &bytes[at..], &mut out[cut..]);
-    let answer = second.answer;
-    let carried = second.carried;
-    let done = first.done + second.done;
-    let segment = last_segment(first.segment, second.done, second.segment);
+    let second = takes::feed(r, first.carried, &bytes[at..], &mut out[cut..]);
     Feed {
-        answer,
-        done,
-        segment,
-        carried,
+        answer: second.answer,
+        done: first.done + second.done,
+        segment: last_segment(first.segment, second.done, second.segment),
+        carried: second.carried,
     }
 }
 
 // Demand 3: each sample that a run reports done is within 2N² + N + 1 of the unrounded one.
-pub fn run_bounded(r: Record, state: State, input: &[i32], output: &mut [i32]) -> Progress
-    ensures { RunsBounded (call r state.waves input.now output.old) result output.new }
+pub fn run_bounded(r: &Record, state: State, input: &[i32], output: &mut [i32]) -> Progress
+    ensures { RunsBounded (call r.now state.waves input.now output.old) result output.new }
 {
-    engine::run(r, state, input, output)
+    let circuit = own(*r);
+    engine::run(&circuit, state, input, output)
 }

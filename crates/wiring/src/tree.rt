@@ -1,54 +1,41 @@
 // Rule 6, the tree: children are lower than their adaptor, every row but the last is a child exactly once, one row is the input, and the
 // tap is a leaf or the top.
 
-ghost use Rattle.std.specs.Prelude.{◌≡◌, ℕ, ◌+◌, ◌-◌, ◌<◌, ◌≤◌, min, not, ◌&&◌, ◌||◌, eqb, get_or};
-ghost use Rattle.circuit.specs.Counting.{one, total};
-ghost use Rattle.circuit.specs.Numbers.{handed, unless, lowest};
-ghost use Rattle.circuit.specs.Record.{row_limit, top, no_row, is_leaf, is_input, not_lower, names};
+ghost use Rattle.std.specs.Prelude.{◌≡◌, ℕ, ◌+◌, ◌<◌, ◌≤◌, min, get_or, count_by};
+ghost use Rattle.std.specs.List.{range_with_len};
+ghost use Rattle.circuit.specs.Numbers.{handed};
+ghost use Rattle.circuit.specs.Record.{row_limit, part_at, is_input, not_lower, children_rule, uses, used_once_rule, input_and_tap_rule};
 ghost use Rattle.laws.specs.Numbered.{numbered};
-ghost use Rattle.sheet.specs.Sheet.{part_in};
 ghost use Rattle.wiring.specs.Uses.{use_more, uses_by};
 
-use circuit::{Answer, NO_ROW, Part, ROWS, TOP};
-use sheet::{Cells, Microvolts, Values, part_in};
+use circuit::{NO_ROW, Part, ROWS, Record, Refusal, TOP};
 
 // An adaptor whose children are not both lower.
 fn not_lower(j: u8, p: Part) -> bool
     ensures { result ≡ not_lower j p }
 {
     match p {
-        Part::Blank => false,
-        Part::Leaf(_) => false,
         Part::Adaptor(a) => !((a.first < j) & (a.second < j)),
+        _ => false,
     }
 }
 
-#[tactic(auto, unfolding(circuit::specs::Numbers::handed))]
-pub(crate) fn children_rule(
-    count: u8,
-    cells: &Cells,
-    microvolts: &Microvolts,
-    values: &Values,
-) -> Answer
-    requires { count ≤ row_limit }
-    ensures { handed result ≡ numbered 6 (lowest (λ j. not_lower j (part_in cells.now microvolts.now values.now j))
-        count) }
+// `find` is the search that the rules share: what is left is what a fault is and what it is called.
+#[tactic(auto, unfolding(circuit::specs::Numbers::told))]
+pub(crate) fn children_rule(r: &Record) -> Result<(), Refusal>
+    ensures { handed result ≡ numbered 6 (children_rule r.now) }
 {
-    for j in 0..count {
-        let at = j as usize;
-        let part = part_in(cells[at], microvolts[at], values[at]);
-        if not_lower(j, part) {
-            return Answer::Tree(j);
-        }
+    match (0..r.count).find(|j| not_lower(*j, r.row(*j as usize).part)) {
+        Some(j) => Err(Refusal::Tree(j)),
+        None => Ok(()),
     }
-    Answer::Done
 }
 
 // One use more. Two stands for any number above it: only one is right.
 fn one_more(n: u8) -> u8
     ensures { result ≡ min 2 (n + 1) }
 {
-    if n < 2 { n + 1 } else { 2 }
+    n.saturating_add(1).min(2)
 }
 
 // One use more of row k, where there is such a row.
@@ -65,99 +52,52 @@ fn use_row(uses: &mut [u8; ROWS], k: u8)
 fn use_children(uses: &mut [u8; ROWS], p: Part)
     ensures { uses.new ≡ uses_by p uses.old }
 {
-    match p {
-        Part::Blank => {}
-        Part::Leaf(_) => {}
-        Part::Adaptor(a) => {
-            use_row(uses, a.first);
-            use_row(uses, a.second);
-        }
+    if let Part::Adaptor(a) = p {
+        use_row(uses, a.first);
+        use_row(uses, a.second);
     }
 }
 
 // How often each row is a child, by one look at each row.
 #[tactic(auto, unfolding(crate::specs::Uses::uses_in))]
-fn uses(count: usize, cells: &Cells, microvolts: &Microvolts, values: &Values) -> [u8; ROWS]
-    requires { count ≤ row_limit }
-    ensures { (k : ℕ) → k < row_limit → get_or result k 0 ≡ min 2 (total (λ j. names
-        (part_in cells.now microvolts.now values.now j) k) count) }
+fn uses(r: &Record) -> [u8; ROWS]
+    ensures { (k : ℕ) → k < row_limit → get_or result k 0 ≡ min 2 (uses r.now k) }
 {
     let mut uses = [0; ROWS];
-    for j in 0..count {
-        let part = part_in(cells[j], microvolts[j], values[j]);
-        use_children(&mut uses, part);
+    for j in 0..r.count {
+        use_children(&mut uses, r.row(j as usize).part);
     }
     uses
 }
 
 // The last row is nobody's child.
-pub(crate) fn used_once_rule(
-    count: u8,
-    cells: &Cells,
-    microvolts: &Microvolts,
-    values: &Values,
-) -> Answer
-    requires { (0 < count) × (count ≤ row_limit) }
-    ensures { handed result ≡ numbered 6 (lowest (λ k. not (eqb (total (λ j. names
-        (part_in cells.now microvolts.now values.now j) k) count) 1)) (count - 1)) }
+#[tactic(auto, unfolding(circuit::specs::Numbers::told))]
+pub(crate) fn used_once_rule(r: &Record) -> Result<(), Refusal>
+    requires { r.now.count ≤ row_limit }
+    ensures { handed result ≡ numbered 6 (used_once_rule r.now) }
 {
-    let uses = uses(count as usize, cells, microvolts, values);
-    let last = count - 1;
-    for k in 0..last {
-        if uses[k as usize] != 1 {
-            return Answer::Tree(k);
-        }
+    let uses = uses(r);
+    match (0..r.count.saturating_sub(1)).find(|k| uses[*k as usize] != 1) {
+        Some(k) => Err(Refusal::Tree(k)),
+        None => Ok(()),
     }
-    Answer::Done
 }
 
-fn one_if(b: bool) -> usize
-    ensures { result ≡ one b }
+fn inputs(r: &Record) -> usize
+    ensures { result ≡ count_by (λ j. is_input (part_at r.now j)) (range_with_len 0 r.now.count) }
 {
-    if b { 1 } else { 0 }
+    (0..r.count)
+        .filter(|j| r.row(*j as usize).part.is_input())
+        .count()
 }
 
-#[tactic(auto, unfolding(circuit::specs::Counting::total))]
-fn inputs(count: usize, cells: &Cells, microvolts: &Microvolts, values: &Values) -> usize
-    requires { count ≤ row_limit }
-    ensures { result ≡ total (λ j. one (is_input (part_in cells.now microvolts.now values.now j))) count }
+#[tactic(auto, unfolding(circuit::specs::Numbers::told))]
+pub(crate) fn input_and_tap_rule(r: &Record) -> Result<(), Refusal>
+    ensures { handed result ≡ numbered 6 (input_and_tap_rule r.now) }
 {
-    let mut n: usize = 0;
-    for j in 0..count {
-        let part = part_in(cells[j], microvolts[j], values[j]);
-        n = n + one_if(part.is_input());
-    }
-    n
-}
-
-// A row's part; past the last row there are blank ones.
-fn part_at(cells: &Cells, microvolts: &Microvolts, values: &Values, j: usize) -> Part
-    ensures { result ≡ part_in cells.now microvolts.now values.now j }
-{
-    if j < ROWS {
-        part_in(cells[j], microvolts[j], values[j])
+    if (inputs(r) == 1) & ((r.tap == TOP) | r.row(r.tap as usize).part.is_leaf()) {
+        Ok(())
     } else {
-        Part::Blank
-    }
-}
-
-pub(crate) fn input_and_tap_rule(
-    count: u8,
-    tap: u8,
-    cells: &Cells,
-    microvolts: &Microvolts,
-    values: &Values,
-) -> Answer
-    requires { count ≤ row_limit }
-    ensures { handed result ≡ numbered 6 (unless
-        (eqb (total (λ j. one (is_input (part_in cells.now microvolts.now values.now j)))
-        count) 1 && (eqb tap top || is_leaf (part_in cells.now microvolts.now values.now tap))) no_row) }
-{
-    let inputs = inputs(count as usize, cells, microvolts, values);
-    let tapped = part_at(cells, microvolts, values, tap as usize);
-    if (inputs == 1) & ((tap == TOP) | tapped.is_leaf()) {
-        Answer::Done
-    } else {
-        Answer::Tree(NO_ROW)
+        Err(Refusal::Tree(NO_ROW))
     }
 }

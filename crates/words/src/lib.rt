@@ -1,84 +1,44 @@
 // What an answer means, in a line of words.
 #![tactic(auto)]
 
-ghost use Rattle.std.specs.Prelude.{◌≤◌, ◌≡◌, length};
-ghost use Rattle.circuit.specs.Promises.{Explains};
-ghost use Rattle.words.specs.Numbered.{line_end, line, Begins};
+ghost use Rattle.std.specs.Prelude.{◌≡◌};
+ghost use Rattle.circuit.specs.Words.{meaning};
 
-use circuit::Answer;
+use circuit::Refusal;
 
-// Room for any answer's words. The longest are those of number 18.
-pub const ROOM: usize = 129;
-
-pub type Line = [u8; ROOM];
-
-// Where the line ends that begins at a place: after its newline.
-fn line_end(lines: &[u8], from: usize) -> usize
-    requires { from ≤ length lines.now }
-    ensures { result ≡ line_end lines.now from }
+// The words, with the newline that ends them.
+#[tactic(auto, unfolding(circuit::specs::Words::meaning, circuit::specs::Text::text))]
+pub fn explain(answer: Result<(), Refusal>) -> &'static str
+    ensures { result.now ≡ meaning answer }
 {
-    let mut i = from;
-    while i < lines.len() {
-        if lines[i] == b'\n' {
-            return i + 1;
-        }
-        i += 1;
+    match answer {
+        Ok(()) => "done\n",
+        Err(Refusal::Length) => "the file is not 1536 bytes\n",
+        Err(Refusal::Check(_)) => "a check is wrong; the place is the lowest block\n",
+        Err(Refusal::Version) => "the version is neither 1 nor 2\n",
+        Err(Refusal::Form) =>
+            "a count, kind, mark, blank row or column, or unused byte is against the rules\n",
+        Err(Refusal::Rate) => "the rate is outside its limits\n",
+        Err(Refusal::Tree(_)) =>
+            "a child is not lower than its adaptor, or a row is not used exactly once; the place is the row, or 255 for the input or the tap\n",
+        Err(Refusal::Value(_)) =>
+            "an element value or steady microvolts are outside their limits; the place is the lowest row\n",
+        Err(Refusal::Resistance(_)) =>
+            "a port resistance is outside its limits; the place is the lowest row\n",
+        Err(Refusal::Ratio(_)) => "a ratio is outside its limits; the place is the lowest row\n",
+        Err(Refusal::Curve(_)) =>
+            "a column breaks the column rule; the place is the lowest column, or 0 if a single has no (0, 0)\n",
+        Err(Refusal::Fit) => "the curve resistance does not fit the top's port resistance\n",
+        Err(Refusal::Waves(_)) =>
+            "a stored wave is outside its limits; the place is its row, or 255 for what a take carries beside its waves\n",
+        Err(Refusal::Lengths) => "the input and the output have different lengths\n",
+        Err(Refusal::Sample(_)) => "a sample is outside its limits; the place is its index\n",
+        Err(Refusal::Overload(_)) =>
+            "a wave became too large; the place is the index of the sample\n",
+        Err(Refusal::Room) => "the room is not four bytes for each whole sample\n",
+        Err(Refusal::LeftOver(_)) =>
+            "the take ends inside a sample; the place is how many samples are done\n",
+        Err(Refusal::Voltage) =>
+            "the knee or the thermal voltage is below 1, the thermal voltage is no multiple of 32, or the last column would be above 67108864\n",
     }
-    i
-}
-
-// A text at the start of the buffer.
-fn copy(text: &[u8], out: &mut [u8]) -> usize
-    requires { length text.now ≤ length out.old }
-    ensures { Begins text.now out.old result out.new }
-{
-    let size = text.len();
-    out[..size].copy_from_slice(text);
-    size
-}
-
-// The line that has k lines before it, at the start of the buffer.
-fn put_line(out: &mut [u8], lines: &[u8], k: u64) -> usize
-    requires { length (line lines.now k) ≤ length out.old }
-    ensures { Begins (line lines.now k) out.old result out.new }
-{
-    let mut from = 0;
-    for _ in 0..k {
-        from = line_end(lines, from);
-    }
-    let to = line_end(lines, from);
-    copy(&lines[from..to], out)
-}
-
-// The words at the start of `out`, and their length. The bytes after them stay as they were.
-//
-// The text has a line for each number, from 0. Every text of a function stands in each step of its proof, so a match with a text to an arm
-// would take several times as long to check.
-pub fn explain(a: Answer, out: &mut Line) -> usize
-    ensures { Explains a out.old result out.new }
-{
-    let number = a.number();
-    put_line(
-        out,
-        b"done\n\
-        the file is not 1536 bytes\n\
-        a check is wrong; the place is the lowest block\n\
-        the version is neither 1 nor 2\n\
-        a count, kind, mark, blank row or column, or unused byte is against the rules\n\
-        the rate is outside its limits\n\
-        a child is not lower than its adaptor, or a row is not used exactly once; the place is the row, or 255 for the input or the tap\n\
-        an element value or steady microvolts are outside their limits; the place is the lowest row\n\
-        a port resistance is outside its limits; the place is the lowest row\n\
-        a ratio is outside its limits; the place is the lowest row\n\
-        a column breaks the column rule; the place is the lowest column, or 0 if a single has no (0, 0)\n\
-        the curve resistance does not fit the top's port resistance\n\
-        a stored wave is outside its limits; the place is its row, or 255 for what a take carries beside its waves\n\
-        the input and the output have different lengths\n\
-        a sample is outside its limits; the place is its index\n\
-        a wave became too large; the place is the index of the sample\n\
-        the room is not four bytes for each whole sample\n\
-        the take ends inside a sample; the place is how many samples are done\n\
-        the knee or the thermal voltage is below 1, the thermal voltage is no multiple of 32, or the last column would be above 67108864\n",
-        number,
-    )
 }

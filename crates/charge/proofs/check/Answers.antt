@@ -1,39 +1,36 @@
--- Set-up's answer where it refuses, and rule 12's else.
-use Rattle.std.proofs.Common.{◌≡◌, ℕ, sym, ap, ◌∙◌, arith}
-use Rattle.circuit.specs.Numbers.{handed, judge}
-use Rattle.circuit.specs.SetUp.{set_up_report}
+-- Set-up's refusal where it has one, and rule 12's else.
+use Rattle.std.proofs.Common.{◌≡◌, [], sym, ap, ◌∙◌}
+use Rattle.std.proofs.lemmas.Result.{IfOk-from_err}
+use Rattle.circuit.specs.Numbers.{Report, done, judge, told}
 use Rattle.circuit.specs.Run.{stored_waves_rule, Charged, charged_rules}
-use Rattle.circuit.specs.declared.Answer.{Answer}
-use Rattle.laws.specs.Numbered.{numbered}
+use Rattle.circuit.specs.SetUp.{set_up_report}
+use Rattle.circuit.specs.declared.Refusal.{Refusal}
+use Rattle.laws.proofs.Charging.{waves_rules, charged_judged}
 use Rattle.laws.proofs.Judging.{else_next, else_first}
-use Rattle.laws.proofs.Charging.{charged_judged}
-use Rattle.laws.proofs.Chain.{last_judges}
+use Rattle.laws.proofs.Trying.{told_above, handed_on, refused_first, last_judged}
 use Rattle.charge.proofs.check.Goals as goal
 
-module _ (k : Charged) (a : Answer) (told : handed a ≡ set_up_report k.circuit) {n : ℕ} (number : n ≡ (handed a).number) where
-  refused : (n ≡ 0 → ⊥) → handed a ≡ judge charged_rules k
-  refused some = told ∙ sym (charged_judged k ∙ else_first _ _ (rw (← told) (omega arith)))
+module _ (k : Charged) where
+  set_up_refused : (e : Refusal) → told e ≡ set_up_report k.circuit → told e ≡ judge charged_rules k
+  set_up_refused e same = same ∙ sym (charged_judged k ∙ else_first _ _ (rw same at (told_above e)))
 
-  passed : n ≡ 0 → (b : Answer) → handed b ≡ numbered 12 (stored_waves_rule k.circuit k.waves) → handed b ≡ judge charged_rules k
-  passed none b waves =
-      last_judges 12 (λ (k : Charged). stored_waves_rule k.circuit k.waves) k b waves
-      ∙ sym (charged_judged k ∙ else_next _ _ (ap (λ x. x.number) (sym told) ∙ sym number ∙ none))
+  set_up_passed : done ≡ set_up_report k.circuit → {m : Report} → m ≡ judge waves_rules k → m ≡ judge charged_rules k
+  set_up_passed none same = same ∙ sym (charged_judged k ∙ else_next _ _ (ap (λ m. m.number) (sym none)))
 
-pub returns-then-number-ne0 : goal.returns-then-number-ne0
-returns-then-number-ne0 c =
-    let found = c.find_ports-ports.ensures in
-    record {
-      number = refused _ _ found.number c.number.ensures c.if-number-ne0.true;
-      resistances = found.resistances;
-      ratios = found.ratios;
-    }
+pub returns-in_err-rows-clause-charges : goal.returns-in_err-rows-clause-charges
+returns-in_err-rows-clause-charges c =
+    let handed = c.from_residual.ensures in
+    record { number = handed_on _ _ handed.1 ∙ set_up_refused _ _ c.in_err-rows.ensures.number; rows = IfOk-from_err _ _ handed.0 }
 
-pub returns : goal.returns
-unfolding stored_waves_rule
-returns c =
-    let found = c.find_ports-ports.ensures in
-    record {
-      number = passed _ _ found.number c.number.ensures c.if-number-ne0.false _ c.stored_waves-answer.ensures;
-      resistances = found.resistances;
-      ratios = found.ratios;
-    }
+pub returns-in_err-stored_waves-clause-charges : goal.returns-in_err-stored_waves-clause-charges
+returns-in_err-stored_waves-clause-charges c =
+    let handed = c.from_residual-in_err-stored_waves.ensures in
+    let waves = refused_first 12 (λ (k : Charged). stored_waves_rule k.circuit k.waves) [] _ _ c.in_err-stored_waves.ensures.told in
+    record { number = handed_on _ _ handed.1 ∙ set_up_passed _ c.in_ok-rows.ensures.number waves; rows = IfOk-from_err _ _ handed.0 }
+
+pub returns-clause-charges : goal.returns-clause-charges
+returns-clause-charges c = record {
+  number = set_up_passed _ c.in_ok-rows.ensures.number
+      (c.in_ok-stored_waves.ensures.told ∙ last_judged 12 (λ (k : Charged). stored_waves_rule k.circuit k.waves) _);
+  rows = c.in_ok-rows.ensures.rows;
+}

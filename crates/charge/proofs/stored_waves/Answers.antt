@@ -1,34 +1,35 @@
--- A search of the rows and their waves: the test is made of the wave's bits, read back, and of the part that stands on the sheet.
-use Rattle.std.proofs.Common.{◌≡◌, not, ap, ◌∙◌, w32, arith, rules}
-use mir.ValLaws.{to_z-of_z}
-use Rattle.circuit.specs.Numbers.{handed}
-use Rattle.circuit.specs.Run.{sound_wave}
+-- What is found is the lowest row at fault.
+use Rattle.std.proofs.Common.{not, rules, arith}
+use Rattle.std.proofs.lemmas.Iterator.{first_from_Range}
+use Rattle.circuit.specs.Record.{part_at}
+use Rattle.circuit.specs.Run.{sound_wave, stored_waves_rule}
 use Rattle.circuit.specs.Sample.{stored_at}
-use Rattle.circuit.specs.declared.Part.{Part}
-use Rattle.laws.proofs.Searching.{begin, step, found}
-use Rattle.sheet.specs.Sheet.{part_in}
-use Rattle.sheet.proofs.Back.{part_read}
+use Rattle.circuit.specs.Numbers.{told}
+use Rattle.laws.specs.Accepted.{Sized}
+use Rattle.laws.proofs.Ranges.{found, none}
 use Rattle.charge.proofs.stored_waves.Goals as goal
-use Rattle.charge.proofs.stored_waves.Goals.{After-sound_wave}
 
-told : (c : After-sound_wave)
-    → let given = c.args in
-    not c.sound_wave.result
-    ≡ not (sound_wave (part_in given.cells.now given.microvolts.now given.values.now c.loop-j.j) (stored_at given.state.waves c.loop-j.j))
-told c =
-    let wave = stored_at c.args.state.waves c.loop-j.j in
-    ap not (
-    c.sound_wave.ensures ∙ ap (sound_wave c.part_in-part.result) (to_z-of_z w32 wave (search rules))
-    ∙ ap (λ (p : Part). sound_wave p wave) (part_read _ _ _ _ (omega arith) (search rules) c.part_in-part.ensures)
-    )
+pub returns-in-Some-clause-told : goal.returns-in-Some-clause-told
+unfolding told stored_waves_rule
+returns-in-Some-clause-told c =
+    found (λ j. not (sound_wave (part_at c.args.r.now j) (stored_at c.args.state.now.waves j))) 12 _ c.find.ensures.ran (λ j b q k. search rules) c.in-Some.is
 
-pub loop-j-init : goal.loop-j-init
-loop-j-init c = begin _ _
+pub returns-in-None-clause-told : goal.returns-in-None-clause-told
+unfolding stored_waves_rule
+returns-in-None-clause-told c =
+    none (λ j. not (sound_wave (part_at c.args.r.now j) (stored_at c.args.state.now.waves j))) 12 _ c.find.ensures.ran (λ j b q k. search rules) c.in-None.is
 
-pub returns-then-not-sound_wave : goal.returns-then-not-sound_wave
-unfolding handed
-returns-then-not-sound_wave c =
-    found c.loop-j.invariant 12 (omega arith) (told (goal.at.returns-then-not-sound_wave c).After-sound_wave) (ap not c.if-not-sound_wave.true)
+-- a look at a row tells how many there are
+pub returns-in-None-clause-sized : goal.returns-in-None-clause-sized
+returns-in-None-clause-sized c =
+    let r = c.args.r.now in
+    let h = first_from_Range _ _ _ c.find.result (λ x. Sized r) (λ x. Sized r) c.find.ensures.ran
+    (λ x q k. search rules) (λ x q k. search rules) in
+    (rw c.in-None.is at h) 0 (omega arith) (omega arith)
 
-pub loop-j-preserved : goal.loop-j-preserved
-loop-j-preserved c = step c.loop-j.invariant (omega arith) (told (goal.at.loop-j-preserved c).After-sound_wave) (ap not c.if-not-sound_wave.false)
+pub returns-in-Some-clause-sized : goal.returns-in-Some-clause-sized
+returns-in-Some-clause-sized c =
+    let r = c.args.r.now in
+    let h = first_from_Range _ _ _ c.find.result (λ x. Sized r) (λ x. Sized r) c.find.ensures.ran
+    (λ x q k. search rules) (λ x q k. search rules) in
+    (rw c.in-Some.is at h).2

@@ -1,30 +1,32 @@
--- Length first, then what set-up hands back; the blocks are written only when it hands back 0.
-use Rattle.std.proofs.Common.{◌≡◌, length, sym, ◌∙◌, arith, eq-eqb}
-use Rattle.circuit.specs.Numbers.{handed}
-use Rattle.circuit.specs.File.{file_length, WriteCall, write_report}
-use Rattle.circuit.specs.Promises.{SetsUp}
-use Rattle.circuit.specs.declared.Answer.TheVariants.{Length}
-use Rattle.circuit.specs.declared.SetUp.{SetUp}
-use Rattle.file.proofs.Reported.{write_stop, write_on, writes_file, writes_nothing}
+-- Length first, then what set-up says; the blocks are written only where nothing is refused.
+use Rattle.std.proofs.Common.{sym, ap, ◌∙◌, eq-eqb}
+use Rattle.std.proofs.lemmas.Result.{err_from_is_err_and}
+use Rattle.circuit.specs.Numbers.{Report, told}
+use Rattle.circuit.specs.File.{WriteCall}
+use Rattle.circuit.specs.declared.Refusal.TheVariants.{Length}
+use Rattle.file.proofs.Reported.{write_stop, write_on, buffer_written, refused_left}
 use Rattle.file.proofs.write.Goals as goal
 
 pub returns-then-out-ne-FILE_LENGTH : goal.returns-then-out-ne-FILE_LENGTH
-unfolding handed
+unfolding told
 returns-then-out-ne-FILE_LENGTH c =
-    let w : WriteCall = record { circuit = c.args.r; buffer = c.args.out.now } in
-    writes_nothing w Length (sym (write_stop w c.if-out-ne-FILE_LENGTH.true)) (λ z. omega arith)
+    let w : WriteCall = record { circuit = c.args.r.now; buffer = c.args.out.now } in
+    let number = sym (write_stop w c.if-out-ne-FILE_LENGTH.true) in
+    record { number = number; buffer = refused_left w Length number }
 
--- past the length, what set-up hands back is what writing does
-reported : (w : WriteCall) (made : SetUp) → length w.buffer ≡ file_length → SetsUp w.circuit made → handed made.answer ≡ write_report w
-reported w made long g = g.number ∙ sym (write_on w long)
+pub returns-in_err-set_up : goal.returns-in_err-set_up
+returns-in_err-set_up c =
+    let w : WriteCall = record { circuit = c.args.r.now; buffer = c.args.out.now } in
+    let p = err_from_is_err_and c.from_residual.result c.from_residual.ensures.1 in
+    let number = c.in_err-set_up.ensures.number ∙ sym (write_on w c.if-out-ne-FILE_LENGTH.false) in
+    rw (p.1, p.2) (record { number = number; buffer = refused_left w _ number })
 
-pub returns-then-number-eq0 : goal.returns-then-number-eq0
-returns-then-number-eq0 c =
-    let w : WriteCall = record { circuit = c.args.r; buffer = c.args.out.now } in
+pub returns : goal.returns
+returns c =
+    let w : WriteCall = record { circuit = c.args.r.now; buffer = c.args.out.now } in
     let long = c.if-out-ne-FILE_LENGTH.false in
-    writes_file w _ _ (reported w _ long c.set_up-set_up.ensures) (sym c.number.ensures ∙ c.if-number-eq0.true) (c.write.ensures ∙ rw (eq-eqb _ _ long))
-
-pub returns-else-number-eq0 : goal.returns-else-number-eq0
-returns-else-number-eq0 c =
-    let w : WriteCall = record { circuit = c.args.r; buffer = c.args.out.now } in
-    writes_nothing w _ (reported w _ c.if-out-ne-FILE_LENGTH.false c.set_up-set_up.ensures) (λ z. c.if-number-eq0.false (c.number.ensures ∙ z))
+    let number = c.in_ok-set_up.ensures.number ∙ sym (write_on w long) in
+    record {
+      number = number;
+      buffer = c.write.ensures ∙ rw (eq-eqb _ _ long) (sym (buffer_written w (ap (λ (m : Report). m.number) (sym number))));
+    }

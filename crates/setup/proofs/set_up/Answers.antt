@@ -1,14 +1,40 @@
--- What was laid out is the record, so what is found of it is found of the record.
-use Rattle.std.proofs.Common.{subst, ◌∙◌}
-use Rattle.circuit.specs.Promises.{Finds}
-use Rattle.circuit.specs.declared.Record.{Record}
-use Rattle.laws.proofs.Sizes.{sized}
-use Rattle.sheet.proofs.Back.{record_back}
-use Rattle.setup.proofs.Found.{found_rows}
+-- What each group of rules answers is set-up's answer, and where all pass the filled rows are the prepared ones.
+use Rattle.std.proofs.Common.{sym, ◌∙◌}
+use Rattle.std.proofs.lemmas.Result.{IfOk-from_err}
+use Rattle.circuit.specs.Numbers.{told}
+use Rattle.laws.proofs.Accepting.{accepting}
+use Rattle.laws.proofs.Trying.{handed_on}
+use Rattle.setup.proofs.Judged.{version_refused, version_accepted, record_refused, record_passed, record_shows, accepted_rows}
+use Rattle.setup.proofs.Rows.{rows_prepared}
 use Rattle.setup.proofs.set_up.Goals as goal
+
+pub returns-then-not-is_version : goal.returns-then-not-is_version
+unfolding told
+returns-then-not-is_version c = record { number = sym (version_refused _ (sym c.is_version.ensures ∙ c.if-not-is_version.true)); rows = tt }
+
+pub returns-in_err-judge_record : goal.returns-in_err-judge_record
+returns-in_err-judge_record c =
+    let version = version_accepted c.args.r.now (sym c.is_version.ensures ∙ c.if-not-is_version.false) in
+    record {
+      number = handed_on _ _ c.from_residual.ensures.1 ∙ record_refused _ version _ c.in_err-judge_record.ensures;
+      rows = IfOk-from_err _ _ c.from_residual.ensures.0;
+    }
+
+pub returns-in_err-judge : goal.returns-in_err-judge
+returns-in_err-judge c =
+    let version = version_accepted c.args.r.now (sym c.is_version.ensures ∙ c.if-not-is_version.false) in
+    let handed = c.from_residual-in_err-judge.ensures in
+    record {
+      number = handed_on _ _ handed.1 ∙ record_passed _ version c.in_ok-judge_record.ensures c.in_err-judge.ensures;
+      rows = IfOk-from_err _ _ handed.0;
+    }
 
 pub returns : goal.returns
 returns c =
-    let back = record_back (sized c.args.r _ c.well_formed.0) c.lay-h.ensures in
-    let up = subst (λ (r : Record). Finds r c.find_ports-ports.result) back c.find_ports-ports.ensures in
-    record { number = up.number; rows = c.prepared_rows-rows.ensures ∙ found_rows up }
+    let r = c.args.r.now in
+    let version = version_accepted r (sym c.is_version.ensures ∙ c.if-not-is_version.false) in
+    let same = record_passed r version c.in_ok-judge_record.ensures c.in_ok-judge.ensures in
+    let filled = c.filled_rows-rows.ensures in
+    let accepted = accepting r filled.sized (sym same) in
+    let rooted = record_shows r filled.sized (sym c.in_ok-judge_record.ensures) in
+    record { number = same; rows = rows_prepared r rooted _ filled.rows accepted.ratio ∙ accepted_rows r (sym same) }

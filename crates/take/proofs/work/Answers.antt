@@ -13,5 +13,5 @@ slice_bounds-write_all-end c = outputs_inside c.feed-fed.ensures
 pub slice_bounds-write_all-end-2 : goal.slice_bounds-write_all-end-2
 slice_bounds-write_all-end-2 c = sym (length-take-le _ _ (outputs_inside c.feed-fed.ensures))
 
-pub returns-clause-few : goal.returns-clause-few
-returns-clause-few c = few_left c.feed-fed.ensures c.requires
+pub returns : goal.returns
+returns c = few_left c.feed-fed.ensures c.requires

@@ -1,7 +1,19 @@
--- The circuit's answer, and where it is done the take's own.
-use Rattle.takes.proofs.Deciding.{end_decided}
+-- The circuit's refusal, then the take's own, then what is left over.
+use Rattle.std.proofs.Common.{◌≡◌, Err, ◌∙◌, rules}
+use Rattle.circuit.specs.Take.{take_of}
+use Rattle.takes.proofs.Deciding.{stopped, passed_on, end_decided}
 use Rattle.takes.proofs.finish.Goals as goal
+
+pub returns-in_err-check : goal.returns-in_err-check
+returns-in_err-check c =
+    let same : c.from_residual.result ≡ Err c.in_err-check.field-0.0 = search rules in
+    record { number = rw same (stopped _ _ _ c.in_err-check.ensures.charges.number) ∙ end_decided (take_of _ _) }
+
+pub returns-in_err-own_rules : goal.returns-in_err-own_rules
+returns-in_err-own_rules c =
+    let same : c.from_residual-in_err-own_rules.result ≡ Err c.in_err-own_rules.field-0.0 = search rules in
+    record { number = rw same (stopped _ _ _ c.in_err-own_rules.ensures) ∙ passed_on _ _ c.in_ok-check.ensures.charges.number ∙ end_decided (take_of _ _) }
 
 pub returns : goal.returns
 returns c =
-    record { number = end_decided _ _ _ _ _ _ c.or-2.ensures c.or.ensures c.answer-circuit.ensures c.own_rules-own.ensures c.end_rule-end.ensures }
+    record { number = c.end_rule.ensures ∙ passed_on _ _ c.in_ok-own_rules.ensures ∙ passed_on _ _ c.in_ok-check.ensures.charges.number ∙ end_decided (take_of _ _) }

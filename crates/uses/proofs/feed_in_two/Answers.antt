@@ -27,17 +27,17 @@ second : (c : After-feed-second)
     → let a = c.args in
     let cut = room_for a.at a.carried in
     length c.feed-first.new.out ≡ cut
-    → Feeds (feeding a.r c.feed-first.result.carried (drop a.at a.bytes.now) (drop cut a.out.now)) c.feed-second.result c.feed-second.new.out
+    → Feeds (feeding a.r.now c.feed-first.result.carried (drop a.at a.bytes.now) (drop cut a.out.now)) c.feed-second.result c.feed-second.new.out
 second c size =
     let a = c.args in
     let cut = room_for a.at a.carried in
     subst (λ f. Feeds f c.feed-second.result c.feed-second.new.out)
-    (ap₂ (feeding a.r c.feed-first.result.carried) (rest a.at a.bytes.now) (rest_after cut c.feed-first.new.out (drop cut a.out.now) size))
+    (ap₂ (feeding a.r.now c.feed-first.result.carried) (rest a.at a.bytes.now) (rest_after cut c.feed-first.new.out (drop cut a.out.now) size))
     c.feed-second.ensures
 
-pub overflow_add-done : goal.overflow_add-done
-overflow_add-done c =
-    let at = goal.at.overflow_add-done c in
+pub overflow_add-result : goal.overflow_add-result
+overflow_add-result c =
+    let at = goal.at.overflow_add-result c in
     let once = at.After-feed-first in
     omega (arith, done_inside _ (told once) c.feed-first.ensures (second at.After-feed-second (filled once)))
 
@@ -47,6 +47,6 @@ returns c =
     let once = at.After-feed-first in
     let a = c.args in
     let cut = room_for a.at a.carried in
-    subst (Feeds (feeding a.r a.carried a.bytes.now a.out.now) _)
+    subst (Feeds (feeding a.r.now a.carried a.bytes.now a.out.now) _)
     (sym (put_after cut c.feed-first.new.out (drop cut a.out.now) (filled once) c.feed-second.new.out))
-    (both_done _ (told once) c.feed-first.ensures (second at.After-feed-second (filled once)) _ c.last_segment-segment.ensures)
+    (both_done _ (told once) c.feed-first.ensures (second at.After-feed-second (filled once)) _ c.last_segment.ensures)

@@ -10,7 +10,7 @@ unfolding total
 loop-i-init c = (zero-le, refl, zero-le)
 
 pub loop-i-preserved : goal.loop-i-preserved
-loop-i-preserved c = (omega arith, rw (total_step, c.loop-i.invariant.1, c.number-sum.ensures.value), omega arith)
+loop-i-preserved c = (omega arith, rw (total_step, c.loop-i.invariant.1, c.from-sum.ensures, c.word.ensures) refl, omega arith)
 
 pub returns : goal.returns
 unfolding check_of

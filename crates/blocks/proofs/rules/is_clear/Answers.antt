@@ -1,19 +1,12 @@
--- A turn looks at byte i, and at the end all are looked at.
-use Rattle.std.proofs.Common.{◌≡◌, refl, zero-le, arith}
-use Rattle.circuit.specs.Counting.{every}
-use Rattle.circuit.specs.File.{clear}
-use Rattle.laws.proofs.Counting.{every_step}
+-- Each of the bytes is looked at.
+use Rattle.std.proofs.Common.{◌∙◌, eqb, rules, arith}
+use borrow.Author.Tests.{tests}
+use Rattle.std.proofs.lemmas.Iterator.{YieldsList-from_slice}
+use Rattle.std.proofs.lemmas.Iterator.Search.{all_from_yields_List}
+use Rattle.blocks.proofs.Chains.{part_clear}
 use Rattle.blocks.proofs.rules.is_clear.Goals as goal
 
-pub loop-i-init : goal.loop-i-init
-unfolding every
-loop-i-init c = (zero-le, refl)
-
-pub loop-i-preserved : goal.loop-i-preserved
-loop-i-preserved c = (omega arith, rw (every_step, c.loop-i.invariant.1))
-
 pub returns : goal.returns
-unfolding clear
 returns c =
-    let e : c.loop-i.i ≡ c.args.n = omega arith in
-    rw e at c.loop-i.invariant.1
+    all_from_yields_List (λ b. eqb b 0) _ _ _ c.all.ensures.ran (YieldsList-from_slice _ c.iter.ensures.rest) (λ x b q k. search (rules, tests))
+    ∙ part_clear c.args.s.now c.args.at c.args.n _ c.requires (omega arith)

@@ -1,52 +1,36 @@
 -- Each rule is told where those before it pass.
-use Rattle.std.proofs.Common.{◌≡◌, ℕ, Bool, List, [], ◌∷◌, sym, ap, ◌∙◌}
+use Rattle.std.proofs.Common.{[], ap, sym, ◌∙◌, rules}
 use Rattle.circuit.specs.Counting.{between}
-use Rattle.circuit.specs.Numbers.{Report, handed, judge, rule}
-use Rattle.circuit.specs.Record.{last_version}
-use Rattle.circuit.specs.File.{number_at, check_rule}
-use Rattle.blocks.proofs.Judged.{length_stop, checks_stop, version_stop, unused_stop, file_done}
+use Rattle.circuit.specs.Numbers.{told}
+use Rattle.circuit.specs.Record.{last_version, version_rule}
+use Rattle.circuit.specs.File.{check_rule, unused_bytes_rule}
+use Rattle.circuit.specs.declared.Refusal.TheVariants.{Version, Form}
+use Rattle.laws.proofs.Judging.{pass_done}
+use Rattle.laws.proofs.Trying.{handed_on, refused_first, passed_first}
+use Rattle.blocks.proofs.Judged.{test_passes, test_fails, past_length, past_checks, past_version}
 use Rattle.blocks.proofs.rules.judged.Goals as goal
-use Rattle.blocks.proofs.rules.judged.Goals.{After-is_clear_file-clear}
 
-pub returns-then-s-ne-FILE_LENGTH : goal.returns-then-s-ne-FILE_LENGTH
-unfolding handed
-returns-then-s-ne-FILE_LENGTH c = sym (length_stop c.args.s.now c.if-s-ne-FILE_LENGTH.true)
+pub returns-in_err-wrong_check : goal.returns-in_err-wrong_check
+returns-in_err-wrong_check c =
+    handed_on _ _ c.from_residual.ensures.1
+    ∙ past_length c.args.s.now (search rules) (refused_first 2 check_rule _ _ _ c.in_err-wrong_check.ensures)
 
--- the number that the second test looks at is that of the checks
-checked : (s : List ℕ) (n : ℕ) (m : Report) → n ≡ m.number → m ≡ judge (rule 2 check_rule ∷ []) s → (judge (rule 2 check_rule ∷ []) s).number ≡ n
-checked s n m e f = sym (e ∙ ap (λ x. x.number) f)
+pub returns-then-not-is_version : goal.returns-then-not-is_version
+unfolding told version_rule
+returns-then-not-is_version c =
+    past_checks c.args.s.now (search rules) c.in_ok-wrong_check.ensures
+    (refused_first 3 _ _ _ Version (test_fails 3 (ap (between 1 last_version) (sym c.pair.ensures) ∙ sym c.if-not-is_version.ensures)))
 
-pub returns-then-number-ne0 : goal.returns-then-number-ne0
-returns-then-number-ne0 c =
-    let at = checked c.args.s.now _ _ c.number.ensures c.wrong_check-wrong.ensures in
-    c.wrong_check-wrong.ensures ∙ sym (checks_stop c.args.s.now c.if-s-ne-FILE_LENGTH.false (λ z. c.if-number-ne0.true (sym at ∙ z)))
+pub returns-then-not-is_clear_file : goal.returns-then-not-is_clear_file
+unfolding told unused_bytes_rule
+returns-then-not-is_clear_file c =
+    past_version c.args.s.now (search rules) c.in_ok-wrong_check.ensures
+    (ap (between 1 last_version) (sym c.pair.ensures) ∙ sym c.if-not-is_version.ensures)
+    (refused_first 4 unused_bytes_rule _ _ Form (test_fails 4 (sym c.if-not-is_clear_file.ensures)))
 
--- ---- past the checks
-
-module _ (c : After-is_clear_file-clear) where
-  right : (judge (rule 2 check_rule ∷ []) c.args.s.now).number ≡ 0
-  right = checked c.args.s.now _ _ c.number.ensures c.wrong_check-wrong.ensures ∙ c.if-number-ne0.false
-
-  -- the version that was looked at is the file's
-  version : {b : Bool} → c.is_version-listed.result ≡ b → between 1 last_version (number_at 2 0 c.args.s.now) ≡ b
-  version e = sym (c.is_version-listed.ensures ∙ ap (between 1 last_version) c.pair.ensures) ∙ e
-
-pub returns-then-not-listed : goal.returns-then-not-listed
-unfolding handed
-returns-then-not-listed c =
-    let at = (goal.at.returns-then-not-listed c).After-is_clear_file-clear in
-    sym (version_stop c.args.s.now c.if-s-ne-FILE_LENGTH.false (right at) (version at c.if-not-listed.true))
-
-pub returns-then-clear : goal.returns-then-clear
-unfolding handed
-returns-then-clear c =
-    let at = (goal.at.returns-then-clear c).After-is_clear_file-clear in
-    let clear = sym c.is_clear_file-clear.ensures ∙ c.if-clear.true in
-    sym (file_done c.args.s.now c.if-s-ne-FILE_LENGTH.false (right at) (version at c.if-not-listed.false) clear)
-
-pub returns-else-clear : goal.returns-else-clear
-unfolding handed
-returns-else-clear c =
-    let at = (goal.at.returns-else-clear c).After-is_clear_file-clear in
-    let unclear = sym c.is_clear_file-clear.ensures ∙ c.if-clear.false in
-    sym (unused_stop c.args.s.now c.if-s-ne-FILE_LENGTH.false (right at) (version at c.if-not-listed.false) unclear)
+pub returns : goal.returns
+unfolding unused_bytes_rule
+returns c =
+    past_version c.args.s.now (search rules) c.in_ok-wrong_check.ensures
+    (ap (between 1 last_version) (sym c.pair.ensures) ∙ sym c.if-not-is_version.ensures)
+    (passed_first 3 unused_bytes_rule _ _ (test_passes 4 (sym c.if-not-is_clear_file.ensures)) (sym (pass_done [] _ tt)))

@@ -1,23 +1,18 @@
--- The first block whose check is wrong is handed back, and none once all are looked at.
-use Rattle.std.proofs.Common.{arith}
-use Rattle.circuit.specs.Numbers.{handed}
-use Rattle.circuit.specs.File.{check_rule}
-use Rattle.circuit.specs.declared.Answer.TheVariants.{Done, Check}
-use Rattle.laws.proofs.Chain.{last_judges}
-use Rattle.laws.proofs.Searching.{begin, step, found, none}
+-- What is found is the lowest block whose check is wrong.
+use Rattle.std.proofs.Common.{◌≡◌, length, rules}
+use Rattle.circuit.specs.Numbers.{told}
+use Rattle.circuit.specs.File.{file_length, check_rule}
+use Rattle.laws.proofs.Ranges.{found, none}
 use Rattle.blocks.proofs.rules.wrong_check.Goals as goal
 
-pub loop-k-init : goal.loop-k-init
-loop-k-init c = begin _ _
+pub returns-in-Some : goal.returns-in-Some
+unfolding told check_rule
+returns-in-Some c =
+    let long : length c.args.s.now ≡ file_length = search rules in
+    rw long (found _ 2 _ c.find.ensures.ran (λ k b q h. search rules) c.in-Some.is)
 
-pub loop-k-preserved : goal.loop-k-preserved
-loop-k-preserved c = step c.loop-k.invariant (omega arith) c.is_wrong.ensures c.if-is_wrong.false
-
-pub returns-then-is_wrong : goal.returns-then-is_wrong
-unfolding check_rule handed
-returns-then-is_wrong c =
-    last_judges 2 check_rule _ (Check c.loop-k.k) (found c.loop-k.invariant 2 (omega arith) c.is_wrong.ensures c.if-is_wrong.true)
-
-pub returns : goal.returns
-unfolding check_rule handed
-returns c = last_judges 2 check_rule _ Done (none c.loop-k.invariant 2 (omega arith))
+pub returns-in-None : goal.returns-in-None
+unfolding check_rule
+returns-in-None c =
+    let long : length c.args.s.now ≡ file_length = search rules in
+    rw long (none _ 2 _ c.find.ensures.ran (λ k b q h. search rules) c.in-None.is)

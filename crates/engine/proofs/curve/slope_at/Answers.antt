@@ -11,4 +11,4 @@ returns c =
     let after : c.args.i + 1 ≡ suc c.args.i = omega arith in
     let rise : to_z w64 (of_z w64 (wide n.y -ℤ wide o.y)) ≡ n.y -ℤ o.y = search (rules, apart_same) in
     let run : to_z w64 (of_z w64 (wide n.x -ℤ wide o.x)) ≡ n.x -ℤ o.x = search (rules, apart_same) in
-    ap₂ (λ (y x : ℤ). record { rise = y; run = x }) rise run ∙ ap₂ slope_to c.column-o.ensures (rw after at c.column-n.ensures)
+    ap₂ (λ (y x : ℤ). record { rise = y; run = x }) rise run ∙ ap₂ slope_to c.column-o.ensures.value (rw after at c.column-n.ensures.value)

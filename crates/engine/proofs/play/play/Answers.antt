@@ -1,37 +1,21 @@
 -- The stored waves are loaded, the samples are played over a plan of the record, and what they leave is taken out.
-use Rattle.circuit.specs.declared.Record.{Record}
-use Rattle.sheet.specs.Sheet.{rows_in, columns_in, record_in}
-use Rattle.engine.specs.Plan.{Seated}
 use Rattle.engine.specs.Sample.{Loaded}
-use Rattle.engine.proofs.Calling.{laid_out, runs}
-use Rattle.engine.proofs.Laying.{seat}
+use Rattle.engine.proofs.Calling.{laid_out}
 use Rattle.engine.proofs.play.play.Goals as goal
 use Rattle.engine.proofs.play.play.Goals.{After-load-up}
 
--- what is laid out and loaded
-module _ (c : After-load-up) where
-  -- the record that the sheet stands for
-  abbrev circuit : Record
-  circuit = let a = c.args in record_in a.h (rows_in a.cells.now a.microvolts.now a.values.now) (columns_in a.xs.now a.ys.now)
-
-  seated : Seated circuit.rows c.wide-count.result c.lay_out-shape.new.slots circuit
-  seated = seat c.wide-count.ensures c.lay_out-shape.ensures.slots
-
-  loaded : Loaded circuit c.args.state.waves c.load-up.result
-  loaded = c.load-up.ensures circuit seated c.requires.0.waves
+loaded : (g : _) (c : After-load-up g) → Loaded c.args.r.now c.args.state.now.waves c.load-up.result
+loaded g c = c.load-up.ensures c.requires.0.waves
 
 pub samples-stop-requires : goal.samples-stop-requires
-samples-stop-requires c = (laid_out c.lay_out-shape.ensures.fixed (loaded (goal.at.samples-stop-requires c).After-load-up), c.requires.1)
+samples-stop-requires g c = (laid_out c.lay_out-plan.ensures (loaded g (goal.at.samples-stop-requires g c).After-load-up), c.requires.1)
 
-pub unload-after-requires : goal.unload-after-requires
-unload-after-requires c =
-    let at = (goal.at.unload-after-requires c).After-load-up in
-    let w = c.samples-stop.ensures.plays (circuit at) c.args.state.waves c.lay_out-shape.ensures.fixed (loaded at) in
-    (circuit at, _, seated at, w.loaded)
+pub unload-requires : goal.unload-requires
+unload-requires g c =
+    let w = c.samples-stop.ensures.plays _ _ c.lay_out-plan.ensures (loaded g (goal.at.unload-requires g c).After-load-up) in
+    (c.lay_out-plan.ensures.seated, (_, w.loaded))
 
 pub returns : goal.returns
-returns c =
-    let at = (goal.at.returns c).After-load-up in
-    let w = c.samples-stop.ensures.plays (circuit at) c.args.state.waves c.lay_out-shape.ensures.fixed (loaded at) in
-    let waves = c.unload-after.ensures (circuit at) _ (seated at) w.loaded in
-    runs c.requires.0 c.args.input.now c.args.output.now c.requires.1 w waves
+returns g c =
+    let w = c.samples-stop.ensures.plays _ _ c.lay_out-plan.ensures (loaded g (goal.at.returns g c).After-load-up) in
+    record { number = w.number; samples = w.samples; segment = w.segment; waves = c.unload.ensures _ w.loaded; written = w.written }

@@ -2,15 +2,12 @@
 use Rattle.std.proofs.Common.{◌≡◌, ℕ, ◌<◌, ◌≤◌, length, pos}
 use Rattle.circuit.specs.Record.{row_limit}
 use Rattle.circuit.specs.Sample.{stored_at}
-use Rattle.sheet.specs.Sheet.{rows_in}
 use Rattle.engine.proofs.Loading.{out_of}
-use Rattle.engine.proofs.Placing.{Own}
 use Rattle.engine.proofs.play.unload.Given as goal
 
 abbrev pub invariant-loop-i : goal.invariant-loop-i
 invariant-loop-i l = record {
-  own : Own l.slots l.count;
   long : length l.state.waves ≡ row_limit;
-  taken : (j : ℕ) → j < l.i → stored_at l.state.waves j ≡ out_of (rows_in l.cells l.microvolts l.values) l.slots l.up j;
+  taken : (j : ℕ) → j < l.i → stored_at l.state.waves j ≡ out_of l.r l.slots l.up j;
   rest : (j : ℕ) → l.i ≤ j → stored_at l.state.waves j ≡ pos 0;
 }

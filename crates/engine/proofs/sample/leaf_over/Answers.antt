@@ -1,11 +1,12 @@
 -- Where the quick test says no, no wave is over its limit; else each is tested.
-use Rattle.std.proofs.Common.{◌≡◌, ℕ, ◌<◌, false, List, ℤ, w64, sym, ap, arith, rules}
+use Rattle.std.proofs.Common.{◌≡◌, ℕ, ◌<◌, ◌||◌, false, List, ℤ, w64, sym, ap, ap₂, ◌∙◌, arith, rules}
 use mathlib.Core.Bool.{not}
 use mir.ValLaws.{to_z-of_z}
 use Rattle.whole.specs.Order.{Abs}
 use Rattle.circuit.specs.Curve.{wave_limit}
 use Rattle.circuit.specs.Sample.{stored_at}
 use Rattle.laws.proofs.Counting.{false_some}
+use Rattle.laws.proofs.Ranges.{some_in}
 use Rattle.engine.specs.Plan.{floor}
 use Rattle.engine.specs.Sample.{over_at, leaf_over}
 use Rattle.engine.proofs.Limits.{abs_within}
@@ -27,3 +28,9 @@ returns-then-not-may_be_over-2 c =
     let calm = c.may_be_over-else-n-gt2.ensures c.if-not-may_be_over-2.true in
     let input = (c.gathered.ensures (rw (to_z-of_z w64 c.gathered.result (record { sfits = c.gathered.type_inv })) at calm.0)).1 in
     sym (none_over c.args.n ds calm.1 (rw (to_z-of_z w64 (stored_at ds floor) (search rules)) at input))
+
+pub returns : goal.returns
+returns c =
+    let ds = c.args.down.now in
+    let input = rw (to_z-of_z w64 (stored_at ds floor) (search rules)) at c.in_limit.ensures in
+    ap₂ ◌||◌ (c.any_over.ensures ∙ some_in (over_at ds) c.args.n) (ap not input)

@@ -11,7 +11,8 @@ use Rattle.circuit.specs.Curve.{wave_limit, segment}
 use Rattle.circuit.specs.Sample.{stored_at}
 use Rattle.circuit.specs.declared.Record.{Record}
 use Rattle.engine.specs.Curve.{Reflects}
-use Rattle.engine.specs.Plan.{floor, joints_of, plan_of, Plan}
+use Rattle.engine.specs.declared.plan.Plan.{Plan}
+use Rattle.engine.specs.Plan.{floor}
 use Rattle.engine.specs.Sweep.{Risen, Climbs, Modest, Drops, Reached}
 use Rattle.engine.specs.Sample.{turned_by, Fixed, Loaded, LaidOut, Works}
 use Rattle.engine.proofs.Limits.{limit_reads}
@@ -32,7 +33,7 @@ enters {a} {t} short turns fits told = returned a short ∙ rw (to_z-of_z w64 t 
 
 risen : {p : Plan} {ups ds : List ℤ} (k : LaidOut p ups ds) {x t : ℤ} {above : List ℤ} → within source_limit x ≡ true
     → t ≡ turned_by (stored_at p.turns floor) x
-    → ((s : Climbs p.shape.inward p.joints p.shape.adaptors (set ups floor t)) → Risen s.swept.circuit s.swept.wave (suc floor + p.shape.adaptors) above)
+    → ((s : Climbs p (set ups floor t)) → Risen s.swept.circuit s.swept.wave (suc floor + p.adaptors) above)
     → Raised k x above
 risen k {x} quiet e up = record { source = quiet; up = rw e at up (Sampling.climbs k x quiet) }
 
@@ -44,44 +45,44 @@ known {r = r} {ws = ws} fixed loaded room = record { circuit = r; stored = ws; f
 
 pub returns-then-not-in_source_limit : goal.returns-then-not-in_source_limit
 unfolding Works
-returns-then-not-in_source_limit c =
+returns-then-not-in_source_limit g c =
     let loud = read_within source_limit c.ranges.x c.in_source_limit.ensures c.if-not-in_source_limit.true in
-    record { works = λ r ws f l. (Sampling.refuses_loud r ws c.args.x loud, l); room = c.requires.room }
+    record { works = λ r ws f l. (Sampling.refuses_loud r ws c.args.x loud, l); room = c.requires.0.room }
 
 pub turned-requires : goal.turned-requires
-turned-requires c =
-    let fixed = c.requires.fixed in
-    let reads : FitsSigned w64 (stored_at c.args.turns.now floor) = search rules in
+turned-requires g c =
+    let fixed = c.requires.0.fixed in
+    let reads : FitsSigned w64 (stored_at c.args.plan.now.turns floor) = search rules in
     rw (to_z-of_z w64 _ reads, wide_same c.ranges.x)
-    (Sampling.slot_turn fixed floor fixed.slotted.source, (let x = c.ranges.x in omega zfits))
+    (Sampling.slot_turn fixed floor fixed.seated.slotted.source, (let x = c.ranges.x in omega zfits))
 
 pub sweep_up-requires : goal.sweep_up-requires
-sweep_up-requires c =
+sweep_up-requires g c =
     let quiet = read_within source_limit c.ranges.x c.in_source_limit.ensures c.if-not-in_source_limit.false in
-    let turns : FitsSigned w64 (stored_at c.args.turns.now floor) = search rules in
-    rw (enters c.turned.type_inv turns c.ranges.x c.turned.ensures) (Sampling.climbs c.requires c.args.x quiet)
+    let turns : FitsSigned w64 (stored_at c.args.plan.now.turns floor) = search rules in
+    rw (enters c.turned.type_inv turns c.ranges.x c.turned.ensures) (Sampling.climbs c.requires.0 c.args.x quiet, c.requires.1)
 
 pub returns-then-not-in_limit : goal.returns-then-not-in_limit
 unfolding Works
-returns-then-not-in_limit c =
+returns-then-not-in_limit g c =
     let quiet = read_within source_limit c.ranges.x c.in_source_limit.ensures c.if-not-in_source_limit.false in
-    let reads : FitsSigned w64 (stored_at c.sweep_up.new.up (floor + c.args.shape.adaptors)) = search rules in
+    let reads : FitsSigned w64 (stored_at c.sweep_up.new.up (floor + c.args.plan.now.adaptors)) = search rules in
     let over = read_within wave_limit reads c.in_limit.ensures c.if-not-in_limit.true in
-    let turns : FitsSigned w64 (stored_at c.args.turns.now floor) = search rules in
+    let turns : FitsSigned w64 (stored_at c.args.plan.now.turns floor) = search rules in
     let e = enters c.turned.type_inv turns c.ranges.x c.turned.ensures in
     record {
       works = λ r ws f l.
-          let k = known f l c.requires.room in
+          let k = known f l c.requires.0.room in
           let h = risen k quiet e c.sweep_up.ensures in
           (Sampling.refuses_top k _ h over, Sampling.still k _ h);
-      room = c.requires.room;
+      room = c.requires.0.room;
     }
 
 -- ---- the diode
 
-module _ (c : After-reflect-answer) where
+module _ (g : _) (c : After-reflect-answer g) where
   abbrev plan : Plan
-  plan = plan_of c.args.shape (joints_of c.args.joins.now c.args.firsts.now c.args.seconds.now c.args.ratios.now) c.args.turns.now c.args.lines.now
+  plan = c.args.plan.now
 
   -- a circuit and its waves
   abbrev Laid : Type 0
@@ -92,7 +93,7 @@ module _ (c : After-reflect-answer) where
 
   -- the top's slot, the wave that goes up from it, and the answer
   abbrev top : ℕ
-  top = floor + c.args.shape.adaptors
+  top = floor + plan.adaptors
 
   abbrev wave : ℤ
   wave = stored_at above top
@@ -103,7 +104,7 @@ module _ (c : After-reflect-answer) where
   raised : (k : Laid) → Raised k c.args.x above
   raised k =
       let quiet = read_within source_limit c.ranges.x c.in_source_limit.ensures c.if-not-in_source_limit.false in
-      let turns : FitsSigned w64 (stored_at c.args.turns.now floor) = search rules in
+      let turns : FitsSigned w64 (stored_at plan.turns floor) = search rules in
       risen k quiet (enters c.turned.type_inv turns c.ranges.x c.turned.ensures) c.sweep_up.ensures
 
   calm : within wave_limit wave ≡ true
@@ -114,37 +115,36 @@ module _ (c : After-reflect-answer) where
   answered : (k : Laid) → Reflects k.circuit wave c.reflect-answer.result
   answered k =
       let reads : FitsSigned w64 wave = search rules in
-      let mirror : FitsSigned w64 c.args.shape.mirror = search rules in
-      rw (to_z-of_z w64 _ mirror, to_z-of_z w64 _ reads) at c.reflect-answer.ensures k.circuit k.fixed.drawn k.fixed.mirror
+      rw (to_z-of_z w64 _ reads) at c.reflect-answer.ensures k.circuit k.fixed.drawn
 
   -- it is no larger than the wave
   answer_reads : to_z w64 (of_z w64 answer) ≡ answer
-  answer_reads = let k = c.requires in limit_reads (Sampling.answer_range k _ (raised k) calm (answered k).wave)
+  answer_reads = let k = c.requires.0 in limit_reads (Sampling.answer_range k _ (raised k) calm (answered k).wave)
 
   -- ---- down
 
-  abbrev drops : (k : Laid) → Drops c.args.shape.inward plan.joints c.args.shape.adaptors above (set c.args.down.now top answer)
+  abbrev drops : (k : Laid) → Drops plan above (set c.args.down.now top answer)
   drops k = Sampling.drops k _ (raised k) calm (answered k).wave
 
   landed : {below : List ℤ}
-      → ((s : Drops c.args.shape.inward plan.joints c.args.shape.adaptors above (set c.args.down.now top (to_z w64 (of_z w64 answer))))
+      → ((s : Drops plan above (set c.args.down.now top (to_z w64 (of_z w64 answer))))
       → Reached s.swept.circuit s.swept.wave (set c.args.down.now top (to_z w64 (of_z w64 answer))) below)
       → (k : Laid) → Landed plan k.circuit k.stored c.args.x above below
   landed down k = Sampling.landed k _ (raised k) calm (answered k).wave ((rw answer_reads at down) (drops k))
 
 pub sweep_down-requires : goal.sweep_down-requires
-sweep_down-requires c = let at = (goal.at.sweep_down-requires c).After-reflect-answer in rw (answer_reads at) (drops at c.requires)
+sweep_down-requires g c = let at = (goal.at.sweep_down-requires g c).After-reflect-answer in rw (answer_reads g at) (drops g at c.requires.0, c.requires.1)
 
 pub settle-requires : goal.settle-requires
-settle-requires c = Finishing.settles (landed (goal.at.settle-requires c).After-reflect-answer c.sweep_down.ensures c.requires)
+settle-requires g c = Finishing.settles (landed g (goal.at.settle-requires g c).After-reflect-answer c.sweep_down.ensures c.requires.0)
 
 pub returns : goal.returns
-returns c =
-    let at = (goal.at.returns c).After-reflect-answer in
+returns g c =
+    let at = (goal.at.returns g c).After-reflect-answer in
     record {
       works = λ r ws f l.
-          let k = known f l c.requires.room in
-          let risen = Sampling.top_wave k _ (raised at k) in
-          Finishing.works (landed at c.sweep_down.ensures k) ((answered at k).segment ∙ ap (segment r) risen) c.settle.result _ c.settle.ensures;
-      room = (landed at c.sweep_down.ensures c.requires).modest;
+          let k = known f l c.requires.0.room in
+          let risen = Sampling.top_wave k _ (raised g at k) in
+          Finishing.works (landed g at c.sweep_down.ensures k) ((answered g at k).segment ∙ ap (segment r) risen) c.settle.result _ c.settle.ensures;
+      room = (landed g at c.sweep_down.ensures c.requires.0).modest;
     }

@@ -11,7 +11,7 @@ returns-then-leaf_over c = (sym c.leaf_over.ensures ∙ c.if-leaf_over.true, ref
 pub returns : goal.returns
 unfolding Settled
 returns c =
-    let meter = c.args.shape.meter in (
+    let meter = c.args.plan.now.meter in (
       sym c.leaf_over.ensures ∙ c.if-leaf_over.false,
       rw (to_z-of_z w64 meter (search rules)) at c.tapped-output.ensures
           ∙ ap₂ (λ y z. turned_by meter (y +ℤ z)) c.wave_at.ensures c.wave_at-2.ensures,

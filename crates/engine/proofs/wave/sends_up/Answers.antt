@@ -8,13 +8,13 @@ use Rattle.engine.proofs.wave.sends_up.Goals as goal
 
 pub returns-in-Series : goal.returns-in-Series
 unfolding sends_up
-returns-in-Series c =
+returns-in-Series g c =
     let m = up_fits c.requires in
     rw (c.in-Series.is, to_z-of_z m.0, to_z-of_z m.1, to_z-of_z m.2, to_z-of_z m.3) (+ℤ_idl _)
 
 pub returns-in-Parallel : goal.returns-in-Parallel
 unfolding sends_up
-returns-in-Parallel c =
+returns-in-Parallel g c =
     let m = up_fits c.requires in
     rw c.in-Parallel.is
     (returned _ c.parallel_up.type_inv ∙ rw (to_z-of_z c.ranges.g, to_z-of_z m.0, to_z-of_z m.1) at c.parallel_up.ensures)

@@ -7,8 +7,10 @@ use mir.Val.{SFits}
 use Rattle.whole.specs.Integers.{at, ◌⊞◌, ◌⊟◌, ◌⊠◌}
 use Rattle.whole.specs.Signed.{zfits, returned}
 use Rattle.circuit.specs.Omega.{omega_parts, entry_count, entry_at}
-use Rattle.circuit.specs.Knee.{Knob, knob, x_at, lag_at, knee_column}
+use Rattle.circuit.specs.Knee.{x_at, lag_at, knee_column}
+use Rattle.circuit.specs.declared.Knob.{Knob}
 use Rattle.laws.proofs.Knee.{Placed, turned, placed}
+use Rattle.knee.proofs.Knobs.{held}
 use Rattle.knee.proofs.column.column_after.Goals as goal
 use Rattle.knee.proofs.column.column_after.Goals.{After-lag}
 
@@ -34,7 +36,7 @@ module _ (x l : ℤ) (p : Placed x (x -ℤ pos 2 *ℤ l)) where
 
 module _ (c : After-lag) where
   abbrev b : Knob
-  b = knob c.args.a c.args.v
+  b = c.args.s.knob
 
   abbrev x : ℤ
   x = x_at b c.args.k
@@ -43,18 +45,18 @@ module _ (c : After-lag) where
   l = lag_at b c.args.k
 
   place : Placed x (x -ℤ pos 2 *ℤ l)
-  place = placed b (turned b c.requires.0) c.args.k c.requires.1
+  place = placed b (turned b c.args.s.passed) c.args.k c.requires
 
   x_told : to_z w64 (of_z w64 c.x_at-x.result) ≡ x
   x_told =
       let at = c.x_at-x in
-      returned at.result at.type_inv ∙ rw (to_z-of_z c.ranges.a, to_z-of_z c.ranges.v) at at.ensures
+      returned at.result at.type_inv ∙ at.ensures
 
   lag_told : to_z w64 (of_z w64 c.lag.result) ≡ l
   lag_told =
-      let inside : min (24 * c.args.k) (entry_count - 1) ≡ 24 * c.args.k = omega (arith, c.requires.1) in
-      let told = rw (to_z-of_z c.ranges.v, c.entry-w.ensures) at c.lag.ensures in
-      returned c.lag.result c.lag.type_inv ∙ told ∙ ap (λ n. shr_z (c.args.v *ℤ entry_at n) omega_parts) inside
+      let inside : min (24 * c.args.k) (entry_count - 1) ≡ 24 * c.args.k = omega (arith, c.requires) in
+      let told = rw (to_z-of_z (held b _ c.well_formed.0.1.1.0).thermal, c.entry-w.ensures) at c.lag.ensures in
+      returned c.lag.result c.lag.type_inv ∙ told ∙ ap (λ n. shr_z (b.thermal *ℤ entry_at n) omega_parts) inside
 
   wide_y : SFits w64 (x -ℤ pos 2 *ℤ l)
   wide_y = sfits_widen tt (y_fits x l place)

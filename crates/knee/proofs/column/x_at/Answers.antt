@@ -7,6 +7,7 @@ use Rattle.whole.specs.Integers.{at, ◌⊞◌}
 use Rattle.whole.specs.Order.{zarith, Abs, abs_mul}
 use Rattle.whole.specs.Quotients.{floor_rounds, rounds_bound}
 use Rattle.whole.specs.Signed.{zfits, shr_fits, wide_same}
+use Rattle.knee.proofs.Knobs.{held}
 use Rattle.knee.proofs.column.x_at.Goals as goal
 
 module _ (a v : ℤ) (k : ℕ) (A : SFits w32 a) (B : SFits w32 v) (h : k ≤ 60) where
@@ -30,21 +31,22 @@ module _ (a v : ℤ) (k : ℕ) (A : SFits w32 a) (B : SFits w32 v) (h : k ≤ 60
 
 pub overflow_add-result : goal.overflow_add-result
 overflow_add-result c =
-    let g = c.args in
-    let r = c.ranges in
-    let p = scaled g.a g.v g.k r.a r.v c.requires in
-    rw (threes g.a g.v g.k r.a r.v c.requires, wide_same r.v, wide_same r.a, to_z-of_z p, to_z-of_z (shr_fits 32 p)) (far g.a g.v g.k r.a r.v c.requires)
+    let b = c.args.knob in
+    let h = held b _ c.well_formed.0 in
+    let p = scaled b.knee b.thermal c.args.k h.knee h.thermal c.requires in
+    rw (threes b.knee b.thermal c.args.k h.knee h.thermal c.requires, wide_same h.thermal, wide_same h.knee, to_z-of_z p, to_z-of_z (shr_fits 32 p))
+    (far b.knee b.thermal c.args.k h.knee h.thermal c.requires)
 
 pub returns : goal.returns
 returns c =
-    let g = c.args in
-    let r = c.ranges in
-    let p = scaled g.a g.v g.k r.a r.v c.requires in
+    let b = c.args.knob in
+    let h = held b _ c.well_formed.0 in
+    let p = scaled b.knee b.thermal c.args.k h.knee h.thermal c.requires in
     rw (
-      threes g.a g.v g.k r.a r.v c.requires,
-      wide_same r.v,
-      wide_same r.a,
+      threes b.knee b.thermal c.args.k h.knee h.thermal c.requires,
+      wide_same h.thermal,
+      wide_same h.knee,
       to_z-of_z p,
       to_z-of_z (shr_fits 32 p),
-      to_z-of_z (far g.a g.v g.k r.a r.v c.requires),
+      to_z-of_z (far b.knee b.thermal c.args.k h.knee h.thermal c.requires),
     )

@@ -1,16 +1,13 @@
 -- One verdict, then the other, under one number.
-use Rattle.std.proofs.Common.{ap, ◌∙◌, not}
-use Rattle.circuit.specs.Curve.{sound_column, passes_origin, column_rule}
-use Rattle.circuit.specs.Numbers.{handed, unless, lowest}
-use Rattle.laws.proofs.Chain.{first_then}
-use Rattle.sheet.specs.Sheet.{columns_in, record_in}
+use Rattle.std.proofs.Common.{◌∙◌}
+use Rattle.circuit.specs.Curve.{column_rule}
+use Rattle.laws.proofs.Trying.{handed_on, refused_then, passed_then}
 use Rattle.setup.proofs.columns.column_rule.Goals as goal
+
+pub returns-in_err-lowest_column : goal.returns-in_err-lowest_column
+unfolding column_rule
+returns-in_err-lowest_column c = handed_on _ _ c.from_residual.ensures.1 ∙ refused_then 10 _ _ _ c.in_err-lowest_column.ensures
 
 pub returns : goal.returns
 unfolding column_rule
-returns c rows =
-    let given = c.args in
-    let r = record_in given.h rows (columns_in given.xs.now given.ys.now) in
-    ap handed c.or.ensures
-    ∙ first_then 9 (lowest (λ i. not (sound_column r i)) r.width) (unless (passes_origin r.kind r) 0) _ _ (c.lowest_column.ensures rows)
-    (c.origin_rule.ensures rows)
+returns c = passed_then 9 _ _ c.in_ok-lowest_column.ensures c.origin_rule.ensures

@@ -1,35 +1,42 @@
--- Its tests are the definition's.
-use Rattle.std.proofs.Common.{◌≡◌, refl, sym, ap, Bool, ◌&&◌}
-use Rattle.circuit.specs.Numbers.{handed, unless}
-use Rattle.circuit.specs.Record.{form_rule}
+-- Its tests are the definition's, in their order: where one fails the next are not asked.
+use Rattle.std.proofs.Common.{◌≡◌, ◌-◌, sym, ap₂, ap, ◌∙◌, Bool, ◌&&◌}
+use Rattle.std.specs.List.{list_all, range_with_len}
+use Rattle.circuit.specs.Counting.{between}
+use Rattle.circuit.specs.Numbers.{unless, told}
+use Rattle.circuit.specs.Record.{row_limit, column_limit, row_at, column_at, is_set, at_origin, in_form, form_rule}
+use Rattle.circuit.specs.declared.Record.{Record}
 use Rattle.laws.specs.Numbered.{numbered}
-use Rattle.sheet.specs.Sheet.{rows_in, columns_in, record_in}
+use Rattle.laws.proofs.Ranges.{every_in, every_from}
 use Rattle.wiring.proofs.form.form_rule.Goals as goal
-use Rattle.wiring.proofs.form.form_rule.Goals.{After-blank_columns-columns}
+use Rattle.wiring.proofs.form.form_rule.Goals.{else-has_counts-via-then-has_counts+then-rows_in_form+else-blank_columns, else-has_counts-via-then-has_counts+else-rows_in_form, else-has_counts-via-else-has_counts}
 
-pub returns-then-not-has_counts : goal.returns-then-not-has_counts
-unfolding handed form_rule
-returns-then-not-has_counts c = rw (← c.has_counts.ensures, c.if-not-has_counts.true) refl
+module _ (r : Record) where
+  abbrev counts : Bool
+  counts = between 1 row_limit r.count && between 2 column_limit r.width && is_set r.kind
 
--- past the counts, the tests of rows and of columns decide
-decided : (c : After-blank_columns-columns) {b : Bool} → c.rows_in_form-rows.result && c.blank_columns-columns.result ≡ b
-    → let a = c.args in
-    numbered 4 (unless b 0) ≡ numbered 4 (form_rule (record_in a.h (rows_in a.cells.now a.microvolts.now a.values.now) (columns_in a.xs.now a.ys.now)))
-unfolding form_rule
-decided c e =
-    let a = c.args in
-    rw (
-      ← c.has_counts.ensures,
-      c.if-not-has_counts.false,
-      ← c.rows_in_form-rows.ensures a.microvolts.now a.values.now,
-      ← c.blank_columns-columns.ensures,
-    )
-    (ap (λ (b : Bool). numbered 4 (unless b 0)) (sym e))
+  abbrev rows : Bool
+  rows = list_all (λ j. in_form r.count j (row_at r j)) (range_with_len 0 row_limit)
 
-pub returns-then-rows-columns : goal.returns-then-rows-columns
-unfolding handed
-returns-then-rows-columns c = decided (goal.at.returns-then-rows-columns c).After-blank_columns-columns c.if-rows-columns.true
+  abbrev columns : Bool
+  columns = list_all (λ i. at_origin (column_at r i)) (range_with_len r.width (column_limit - r.width))
 
-pub returns-else-rows-columns : goal.returns-else-rows-columns
-unfolding handed
-returns-else-rows-columns c = decided (goal.at.returns-else-rows-columns c).After-blank_columns-columns c.if-rows-columns.false
+  asked : numbered 4 (unless (counts && rows && columns) 0) ≡ numbered 4 (form_rule r)
+  unfolding form_rule
+  asked = ap (λ (b : Bool). numbered 4 (unless b 0)) (ap₂ (λ (p q : Bool). counts && p && q) (every_in _ row_limit) (every_from _ r.width column_limit))
+
+pub returns-then-blank_columns : goal.returns-then-blank_columns
+returns-then-blank_columns c =
+    let r = c.args.r.now in
+    rw (sym c.has_counts.ensures ∙ c.if-has_counts.true, sym c.rows_in_form.ensures ∙ c.if-rows_in_form.true, sym c.blank_columns.ensures ∙ c.if-blank_columns.true) at (asked r)
+
+pub returns-else-has_counts : goal.returns-else-has_counts
+unfolding told
+returns-else-has_counts c =
+    let r = c.args.r.now in
+    elim c.else-has_counts.branch [
+      | else-has_counts-via-then-has_counts+then-rows_in_form+else-blank_columns w ↦
+          rw (sym c.has_counts.ensures ∙ w.if-has_counts.true, sym w.rows_in_form.ensures ∙ w.if-rows_in_form.true, sym w.blank_columns.ensures ∙ w.if-blank_columns.false) at (asked r)
+      | else-has_counts-via-then-has_counts+else-rows_in_form w ↦
+          rw (sym c.has_counts.ensures ∙ w.if-has_counts.true, sym w.rows_in_form.ensures ∙ w.if-rows_in_form.false) at (asked r)
+      | else-has_counts-via-else-has_counts w ↦ rw (sym c.has_counts.ensures ∙ w.if-has_counts.false) at (asked r)
+    ]

@@ -1,8 +1,7 @@
 -- The uses by the rows below j are counted.
 use Rattle.laws.proofs.Looping.{Upto}
-use Rattle.sheet.specs.Sheet.{rows_in}
 use Rattle.wiring.specs.Uses.{uses_in}
 use Rattle.wiring.proofs.tree.uses.Given as goal
 
 abbrev pub invariant-loop-j : goal.invariant-loop-j
-invariant-loop-j l = Upto (uses_in (rows_in l.cells l.microvolts l.values)) l.count l.j l.uses
+invariant-loop-j l = Upto (uses_in l.r.rows) l.r.count l.j l.uses

@@ -1,9 +1,0 @@
--- The loop keeps the length; the bytes before i are passed.
-use Rattle.std.proofs.Common.{◌≡◌, ◌-◌, length}
-use Rattle.bench.proofs.files.raise.Given as goal
-
-abbrev pub invariant-loop-i : goal.invariant-loop-i
-invariant-loop-i l = length l.s ≡ length l.initial.s
-
-abbrev pub decreases-loop-i : goal.decreases-loop-i
-decreases-loop-i l = l.end - l.i

@@ -1,8 +1,0 @@
--- A take begins with no bytes left over.
-use Rattle.std.proofs.Common.{refl, arith}
-use Rattle.circuit.specs.Take.{fresh_take}
-use Rattle.take.proofs.work_take.Goals as goal
-
-pub loop-init : goal.loop-init
-unfolding fresh_take
-loop-init g c = record { few = rw c.start-carried.ensures (omega arith); read = refl; room = refl }
