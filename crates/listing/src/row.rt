@@ -7,6 +7,7 @@ ghost use Rattle.listing.specs.Lines.{ending, line, part_line, row_lines, name_r
 use crate::text::Text;
 use circuit::{Element, Join, Part, Prepared, ROWS, Record};
 
+// The names are no `Display`, here and below: a listing is promised byte for byte, and what is printed has no clause.
 #[tactic(auto, unfolding(circuit::specs::Text::text))]
 fn element_name(e: Element) -> &'static str
     ensures name { result.now ≡ element_name e }

@@ -6,7 +6,7 @@ ghost use Rattle.circuit.specs.Words.{meaning};
 
 use circuit::Refusal;
 
-// The words, with the newline that ends them.
+// The words, with the newline that ends them. Not `Display`: what is printed has no clause, and these words are promised.
 #[tactic(auto, unfolding(circuit::specs::Words::meaning, circuit::specs::Text::text))]
 pub fn explain(answer: Result<(), Refusal>) -> &'static str
     ensures { result.now ≡ meaning answer }
