@@ -568,7 +568,7 @@ def light():
         p.run([(a + 3, y + side + 8), (b - 3, y + side + 8)], ink=GREY, width=1)
         p.circle((a + b) / 2, y + side + 27, 11, ink=GREY, fill=SHADES[last])
         p.text((a + b) / 2, y + side + 31, str(last), "middle", 12, INK, bold=True)
-    below(x, "Each call tells the segment of its last finished sample, and 255 where it has finished none. "
+    below(x, "Each call tells the segment of its last finished sample, and none where it has finished none. "
           "Where the calls are cut makes no difference to the last light of a take.", 46)
     p.save()
 

@@ -4,16 +4,17 @@ use Prim.Native.Nat.{ℕ, zero, suc, ◌+◌, ◌≤◌}
 use native.Mathlib.Nat.{le_refl}
 use native.Mathlib.Omega.{arith}
 use native.Mathlib.Numerals.{add-one}
-use mathlib.Core.Bool.{Bool, ◌&&◌}
+use mathlib.Core.Bool.{Bool, true, ◌&&◌}
 use mathlib.Core.List.{List}
 use lib.Dec.{eqb}
 use lib.ListN.{length, get_or, take, drop}
 use lib.Seq.{take-length, length-take-le, get_or-take, get_or-drop}
-use Rattle.std.specs.List.{list_all}
+use Rattle.std.specs.List.{fold, list_all}
 use Rattle.std.proofs.lemmas.List.Folds.{list_all_more}
 use Rattle.circuit.specs.Counting.{every}
 use Rattle.circuit.specs.File.{clear}
 use Rattle.laws.proofs.Counting.{every_same}
+use Rattle.laws.proofs.Asking.{all_asked}
 use Rattle.blocks.proofs.Digits.{part_room}
 
 module _ {A : Type 0} (p : A → Bool) (xs : List A) (z : A) where
@@ -34,3 +35,7 @@ part_clear s at n m room e =
     ∙ all_every (λ b. eqb b 0) (take n (drop at s)) 0
     ∙ ap (every (λ i. eqb (get_or (take n (drop at s)) i 0) 0)) (length-take-le n (drop at s) (part_room at n s room))
     ∙ every_same _ _ n (λ i l. ap (λ b. eqb b 0) (get_or-take n (drop at s) i 0 l ∙ get_or-drop at s i 0))
+
+-- and where each is asked
+pub part_asked : (s : List ℕ) (at n m : ℕ) → at + n ≤ length s → m ≡ n → fold (λ b x. b && eqb x 0) true (take m (drop at s)) ≡ clear n at s
+part_asked s at n m room e = all_asked (λ x. eqb x 0) (take m (drop at s)) true ∙ part_clear s at n m room e

@@ -12,10 +12,31 @@ mod row;
 mod rules;
 
 ghost use Rattle.std.specs.Prelude.{◌≡◌, cond, eqb, length};
-ghost use Rattle.circuit.specs.File.{file_length, file_of};
+ghost use Rattle.circuit.specs.File.{file_length, file_of, no_record};
 ghost use Rattle.blocks.specs.Promises.{ReadsBlocks};
 
-use circuit::{FILE_LENGTH, Record, Refusal};
+use circuit::{COLUMNS, Column, CurveKind, FILE_LENGTH, Part, ROWS, Record, Refusal, Row};
+
+// The record of zeros. Who wants it where a file is refused has it as `read(s).unwrap_or(no_record())`.
+pub fn no_record() -> Record
+    ensures { result ≡ no_record }
+{
+    let blank = Row {
+        part: Part::Blank,
+        reversed: false,
+    };
+    Record {
+        version: 0,
+        rate: 0,
+        count: 0,
+        tap: 0,
+        rows: [blank; ROWS],
+        kind: CurveKind::Unset,
+        width: 0,
+        columns: [Column { x: 0, y: 0 }; COLUMNS],
+        resistance: 0.0,
+    }
+}
 
 // Numbers 1 to 4, as far as the bytes say them, and the record of bytes that pass.
 pub fn read(s: &[u8]) -> Result<Record, Refusal>

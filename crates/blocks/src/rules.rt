@@ -12,12 +12,15 @@ use circuit::{
     is_version,
 };
 
-// Whether the `n` bytes from `at` on are zero.
+// Whether the `n` bytes from `at` on are zero. Every byte is asked, whatever the ones before it are: a compiler then asks many at once, where `all`
+// would ask them one by one.
 fn is_clear(s: &[u8], at: usize, n: usize) -> bool
     requires { at + n ≤ length s.now }
     ensures { result ≡ clear n at s.now }
 {
-    s[at..at + n].iter().all(|b| *b == 0)
+    s[at..at + n]
+        .iter()
+        .fold(true, |clear, b| clear & (*b == 0))
 }
 
 // Whether the bytes between the last of `n` items and the check of their block are zero.

@@ -9,7 +9,7 @@ ghost use Rattle.circuit.specs.Promises.{Charges};
 ghost use Rattle.laws.specs.Accepted.{Sized};
 ghost use Rattle.laws.specs.Numbered.{numbered};
 
-use circuit::{Part, Prepared, Progress, ROWS, Record, Refusal, State, in_wave_limit};
+use circuit::{Checked, Part, Prepared, Progress, ROWS, Record, Refusal, State, in_wave_limit};
 
 // A reactive row's wave is in its limit, and any other row's is 0.
 fn sound_wave(p: Part, w: i32) -> bool
@@ -33,22 +33,29 @@ fn stored_waves(r: &Record, state: &State) -> Result<(), Refusal>
     }
 }
 
-// The rules over any record at all, and the rows that set-up prepares where none applies.
-pub fn check(r: &Record, state: &State) -> Result<[Prepared; ROWS], Refusal>
+// The rules over any record at all, and the rows that set-up prepares, where 12 refuses too.
+pub fn check(r: &Record, state: &State) -> Checked
     ensures charges { Charges (record { circuit = r.now; waves = state.now.waves }) result }
-    ensures sized { OnOk result (Sized r.now) }
+    ensures sized { OnOk result.answer (Sized r.now) }
 {
-    let rows = setup::set_up(r)?;
-    stored_waves(r, state)?;
-    Ok(rows)
+    match setup::set_up(r) {
+        Ok(rows) => Checked {
+            answer: stored_waves(r, state),
+            rows,
+        },
+        Err(refusal) => Checked {
+            answer: Err(refusal),
+            rows: [Prepared::blank(); ROWS],
+        },
+    }
 }
 
-// What a call hands back that is refused before its first sample.
-pub fn turned_away(refusal: Refusal, state: State) -> Progress
-    ensures { result ≡ record { answer = Err refusal; done = 0; segment = None; state = state } }
+// What a call hands back that is done or refused before its first sample.
+pub fn turned_away(answer: Result<(), Refusal>, state: State) -> Progress
+    ensures { result ≡ record { answer = answer; done = 0; segment = None; state = state } }
 {
     Progress {
-        answer: Err(refusal),
+        answer,
         done: 0,
         segment: None,
         state,

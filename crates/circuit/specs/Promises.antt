@@ -11,6 +11,7 @@ use Rattle.circuit.specs.declared.Knob.{Knob}
 use Rattle.circuit.specs.declared.Refusal.{Refusal}
 use Rattle.circuit.specs.declared.Record.{Record}
 use Rattle.circuit.specs.declared.Prepared.{Prepared}
+use Rattle.circuit.specs.declared.Checked.{Checked}
 use Rattle.circuit.specs.declared.Opened.{Opened}
 use Rattle.circuit.specs.declared.Listed.{Listed}
 use Rattle.circuit.specs.declared.Progress.{Progress}
@@ -36,9 +37,9 @@ pub record Finds (r : Record) (s : Result (List Prepared) Refusal) : Type 0 wher
   pub ratios : IfOk s (λ rows. ratios_of rows ≡ ratios_of (set_up_rows r))
 
 -- 3 to 12 of a circuit with its stored waves, and what set-up prepares
-pub record Charges (k : Charged) (s : Result (List Prepared) Refusal) : Type 0 where
-  pub number : handed s ≡ judge charged_rules k
-  pub rows : IfOk s (λ rows. rows ≡ set_up_rows k.circuit)
+pub record Charges (k : Charged) (s : Checked) : Type 0 where
+  pub number : handed s.answer ≡ judge charged_rules k
+  pub rows : s.rows ≡ set_up_rows k.circuit
 
 -- reading a file's bytes
 pub record Reads (bytes : List ℕ) (s : Result Record Refusal) : Type 0 where

@@ -323,6 +323,14 @@ impl fmt::Display for Refusal {
 
 impl Error for Refusal {}
 
+// What looking at a circuit and the waves that it starts from hands back: why one of them is refused, and the rows that set-up prepared. They are
+// told beside a refusal, since 12 refuses waves of a circuit that set-up accepts; of a circuit that is refused they are zeros.
+#[derive(Clone, Copy)]
+pub struct Checked {
+    pub answer: Result<(), Refusal>,
+    pub rows: [Prepared; ROWS],
+}
+
 // What opening a file hands back: its record, with the rows that set-up prepared.
 #[derive(Clone, Copy)]
 pub struct Opened {
@@ -394,7 +402,8 @@ pub fn in_wave_limit(microvolts: i32) -> bool
     (-WAVE_LIMIT..=WAVE_LIMIT).contains(&microvolts)
 }
 
-// The sample in three bytes, the lowest first. From 2^23 on the number stands for one below zero: moved up by 2^23, it wraps at 2^24.
+// The sample in three bytes, the lowest first. They stand as the upper three of an i32, so that the highest bit is its sign, and a shift to the right
+// keeps it.
 pub fn sample_of(a: u8, b: u8, c: u8) -> i32
     ensures { result ≡ signed (number_of (a ∷ b ∷ c ∷ []) % 2 ^ 24) }
 {

@@ -13,6 +13,7 @@ use Rattle.circuit.specs.SetUp.{set_up_rows}
 use Rattle.circuit.specs.Run.{play, fresh_waves, Charged, charged_rules, worked, ran, call}
 use Rattle.circuit.specs.Take.{output_length, output_bytes}
 use Rattle.circuit.specs.Promises.{Charges, Runs}
+use Rattle.circuit.specs.declared.Checked.{Checked}
 use Rattle.circuit.specs.declared.Prepared.{Prepared}
 use Rattle.circuit.specs.declared.Progress.{Progress}
 use Rattle.circuit.specs.declared.Record.{Record}
@@ -33,19 +34,18 @@ use Rattle.engine.proofs.RawRuns.{ran_raw_worked}
 
 -- ---- 3 to 12
 
-module _ {k : Charged} where
-  pub refusing : {e : Refusal} → Charges k (Err e) → 0 < (judge charged_rules k).number
-  refusing {e} h = rw (← h.number) (told_above e)
+module _ {k : Charged} {s : Checked} (h : Charges k s) where
+  pub refusing : {e : Refusal} → s.answer ≡ Err e → 0 < (judge charged_rules k).number
+  refusing {e} is = rw (← h.number, is) (told_above e)
 
-  module _ {rows : List Prepared} (h : Charges k (Ok rows)) where
-    pub clearing : (judge charged_rules k).number ≡ 0
-    clearing = sym (ap (λ n. n.number) h.number)
+  pub clearing : s.answer ≡ Ok tt → (judge charged_rules k).number ≡ 0
+  clearing is = sym (ap (λ n. n.number) (rw is at h.number))
 
-    pub playable : Sized k.circuit → Playable k.circuit rows k.waves
-    unfolding set_up_rows
-    playable sized =
-        let clear = zero_cleared k clearing in
-        record { ready = record { sized = sized; set_up = clear.set_up; rows = h.rows ∙ rw clear.set_up refl }; waves = clear.waves }
+  pub playable : s.answer ≡ Ok tt → Sized k.circuit → Playable k.circuit s.rows k.waves
+  unfolding set_up_rows
+  playable is sized =
+      let clear = zero_cleared k (clearing is) in
+      record { ready = record { sized = sized; set_up = clear.set_up; rows = h.rows ∙ rw clear.set_up refl }; waves = clear.waves }
 
 cleared : {r : Record} {prepared : List Prepared} {ws : List ℤ} → Playable r prepared ws → Cleared (record { circuit = r; waves = ws })
 cleared p = record { set_up = p.ready.set_up; waves = p.waves }

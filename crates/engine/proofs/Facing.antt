@@ -38,6 +38,10 @@ pub turned_size : (t : ℤ) {a : ℤ} {m : ℕ} → Abs (turned_by t a) m → Ab
 turned_size (pos n) h = h
 turned_size (negsuc n) {a} h = record { bound = rw (nat_abs-neg a) at h.bound }
 
+pub turned_keeps : (t : ℤ) {a : ℤ} {m : ℕ} → Abs a m → Abs (turned_by t a) m
+turned_keeps (pos n) h = h
+turned_keeps (negsuc n) h = abs_neg h
+
 -- ---- by a mark
 
 module _ (ρ : Rounding) where

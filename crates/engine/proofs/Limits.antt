@@ -1,7 +1,7 @@
 -- Waves in their limit, as code reads them back: they fit 64 bits, as do their opposites, sums and differences.
 use Prim.Native.Nat.{ℕ, ◌*◌, ◌^◌, ◌<◌}
 use native.Mathlib.Omega.{arith}
-use mathlib.Core.Path.{◌≡◌, ◌∙◌}
+use mathlib.Core.Path.{◌≡◌, ap₂, ◌∙◌}
 use mathlib.Core.Bool.{true}
 use borrow.Author.Tests.{leb-true, le-leb}
 use lib.IntN.{ℤ, pos, nat_abs, neg_ℤ, ◌+ℤ◌, ◌-ℤ◌, +ℤ_idl}
@@ -44,5 +44,11 @@ module _ {x y : ℤ} (h : Abs x wave_limit) (k : Abs y wave_limit) where
   pub difference_range : Abs (x -ℤ y) (2 * wave_limit)
   difference_range = omega (zarith, at x ⊟ at y)
 
+  pub sum_range : Abs (x +ℤ y) (2 * wave_limit)
+  sum_range = omega (zarith, at x ⊞ at y)
+
   pub sum_fits : SFits w64 (to_z w64 (of_z w64 x) +ℤ to_z w64 (of_z w64 y))
   sum_fits = rw (limit_reads h, limit_reads k) (omega (zfits, at x ⊞ at y))
+
+  pub sum_reads : to_z w64 (of_z w64 (to_z w64 (of_z w64 x) +ℤ to_z w64 (of_z w64 y))) ≡ x +ℤ y
+  sum_reads = to_z-of_z sum_fits ∙ ap₂ ◌+ℤ◌ (limit_reads h) (limit_reads k)

@@ -68,7 +68,7 @@ fn reactive_leaves(r: &Record) -> usize
 }
 
 // The rows' slots; `reactive` is the number of reactive leaves. `next` holds the next slot of each role: of reactive leaves, of other leaves, of the
-// input, of adaptors, of blank rows.
+// input, of adaptors, of blank rows. Here and below by the rows' numbers: each turn writes at a place that the row itself gives.
 fn slots_of(r: &Record, reactive: usize) -> [u8; ROWS]
     requires { (r.now.count ≤ row_limit) × (reactive ≡ reactives r.now) }
     ensures { (j : ℕ) → j < r.now.count → get_or result j 0 ≡ slot_of r.now j }

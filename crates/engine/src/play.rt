@@ -2,7 +2,6 @@
 ghost use Rattle.std.specs.Prelude.{◌≡◌, ◌*◌, ◌≤◌, List, ℤ, length};
 ghost use Rattle.circuit.specs.Numbers.{passes};
 ghost use Rattle.circuit.specs.Run.{fresh_waves, stored_waves_rule, play};
-ghost use Rattle.engine.specs.Wave.{way};
 ghost use Rattle.engine.specs.Plan.{Seated};
 ghost use Rattle.engine.specs.Sample.{Loaded, LaidOut};
 ghost use Rattle.engine.specs.Play.{Plays, Playable, Comes};
@@ -11,11 +10,11 @@ use crate::curve::{LINES, NO_LINE};
 use crate::plan::{Plan, lay_out, slot_at};
 use crate::sample::{sample, turned};
 use crate::tape::{Samples, Written};
-use crate::wave::{Down, Rounds, TowardZero};
 use circuit::{Prepared, Progress, ROWS, Record, Refusal, State, Wave};
 use parts::{facing, part_sends, part_taken};
 
-// What goes up from each row with its stored wave, in its slot; the input's slot waits for a sample.
+// What goes up from each row with its stored wave, in its slot; the input's slot waits for a sample. By the rows' numbers, here and below: a row gives
+// the slot.
 pub(crate) fn load(r: &Record, slots: &[u8; ROWS], state: &State) -> [i64; ROWS]
     requires { Seated r.now slots.now }
     ensures { stored_waves_rule r.now state.now.waves ≡ passes → Loaded r.now state.now.waves result }
@@ -53,20 +52,20 @@ pub(crate) struct Stop {
     pub segment: Option<u8>,
 }
 
-fn rounded_samples<R: Rounds, S: Samples, W: Written>(
+fn samples<S: Samples, W: Written>(
     plan: &Plan,
     up: &mut [i64; ROWS],
     input: &S,
     out: &mut [W],
 ) -> Stop
-    requires { LaidOut plan.now up.old fresh_waves × (W.width * length (S.samples input.now) ≤ length out.old) × (R.rounding ≡ way plan.now.inward) }
+    requires { LaidOut plan.now up.old fresh_waves × (W.width * length (S.samples input.now) ≤ length out.old) }
     ensures { Plays W.shown plan.now up.old (S.samples input.now) out.old result up.new out.new }
 {
     let count = input.count();
     let mut down = [0i64; ROWS];
     let mut segment = None;
     for i in 0..count {
-        match sample::<R>(plan, up, &mut down, input.sample(i)) {
+        match sample(plan, up, &mut down, input.sample(i)) {
             Ok(finished) => {
                 W::put(out, i, finished.output);
                 segment = Some(finished.segment);
@@ -84,23 +83,6 @@ fn rounded_samples<R: Rounds, S: Samples, W: Written>(
         answer: Ok(()),
         done: count,
         segment,
-    }
-}
-
-// The same, whichever way the plan rounds.
-fn samples<S: Samples, W: Written>(
-    plan: &Plan,
-    up: &mut [i64; ROWS],
-    input: &S,
-    out: &mut [W],
-) -> Stop
-    requires { LaidOut plan.now up.old fresh_waves × (W.width * length (S.samples input.now) ≤ length out.old) }
-    ensures { Plays W.shown plan.now up.old (S.samples input.now) out.old result up.new out.new }
-{
-    if plan.inward {
-        rounded_samples::<TowardZero, S, W>(plan, up, input, out)
-    } else {
-        rounded_samples::<Down, S, W>(plan, up, input, out)
     }
 }
 

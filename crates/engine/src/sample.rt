@@ -6,15 +6,14 @@ ghost use Rattle.circuit.specs.Counting.{some};
 ghost use Rattle.circuit.specs.Curve.{wave_limit};
 ghost use Rattle.circuit.specs.Sample.{stored_at};
 ghost use Rattle.laws.specs.Accepted.{adaptor_limit};
-ghost use Rattle.engine.specs.Wave.{down_limit, way};
+ghost use Rattle.engine.specs.Wave.{down_limit};
 ghost use Rattle.engine.specs.Plan.{floor};
 ghost use Rattle.engine.specs.Sweep.{Modest};
 ghost use Rattle.engine.specs.Sample.{over_at, leaf_over, Calm, Turn, turned_by, turn_limit, Restored, Restores, Settles, Settled, LaidOut, Samples, refusal_at};
 
 use crate::plan::{FLOOR, Plan};
 use crate::slot::wave_at;
-use crate::sweep::{sweep_down, sweep_up};
-use crate::wave::Rounds;
+use crate::sweep::{swept_down, swept_up};
 use circuit::{Doubled, ROWS, Refusal, WAVE_LIMIT, Wave, in_source_limit};
 
 // What is gathered so far, and one wave more, with its limit of 2^26 added. Of a wave over the limit that sum is negative or past 2^27, and leaves a
@@ -48,18 +47,21 @@ fn any_over(n: usize, down: &[i64; ROWS]) -> bool
     (0..n).any(|s| !Wave(down[s]).in_limit())
 }
 
-// Rule 15, of the waves that arrive at the leaves: `n` of them are no input. All are looked at together first; where there are many, so are the slots
-// that no leaf has, since a loop of known length is quicker.
+// So few leaves beside the input that their slots are looked at one by one.
+const FEW: usize = 2;
+
+// Rule 15, of the waves that arrive at the leaves: `n` of them are no input. All are looked at together first, and so are slots that no leaf has: of
+// a few, or of all, since a loop of known length is quicker.
 fn leaf_over(n: usize, down: &[i64; ROWS]) -> bool
     requires { (n ≤ floor) × Modest down.now }
     ensures { result ≡ leaf_over n down.now }
 {
-    if 2 < n {
+    if FEW < n {
         if !may_be_over(0, FLOOR + 1, down) {
             return false;
         }
     } else {
-        if !may_be_over(gathered(0, down[FLOOR]), n, down) {
+        if !may_be_over(gathered(0, down[FLOOR]), FEW, down) {
             return false;
         }
     }
@@ -120,8 +122,6 @@ impl Fault {
 }
 
 // The end of a sample. Rule 15 at the leaves comes before anything is stored, and the tap reads what its row has sent, not what it sends next.
-// Both ways to round end so, and with a call of it each sample would be slower.
-#[inline(always)]
 fn settle(
     plan: &Plan,
     segment: u8,
@@ -140,13 +140,13 @@ fn settle(
 }
 
 // Between samples `up` holds what every leaf but the input sends next; a refused sample keeps that. `down` is room for the sweep down.
-pub(crate) fn sample<R: Rounds>(
+pub(crate) fn sample(
     plan: &Plan,
     up: &mut [i64; ROWS],
     down: &mut [i64; ROWS],
     x: i32,
 ) -> Result<Finished, Fault>
-    requires { LaidOut plan.now up.old down.old × (R.rounding ≡ way plan.now.inward) }
+    requires { LaidOut plan.now up.old down.old }
     ensures { Samples plan.now up.old x result up.new down.new }
 {
     if !in_source_limit(x) {
@@ -154,13 +154,13 @@ pub(crate) fn sample<R: Rounds>(
     }
     let n = plan.adaptors;
     up[FLOOR] = turned(plan.turns[FLOOR], x as i64);
-    sweep_up::<R>(plan, up);
+    swept_up(plan, up);
     let risen = Wave(up[FLOOR + n]);
     if !risen.in_limit() {
         return Err(Fault::Over);
     }
     let answer = plan.curve.reflect(risen);
     down[FLOOR + n] = answer.wave.0;
-    sweep_down::<R>(plan, up, down);
+    swept_down(plan, up, down);
     settle(plan, answer.segment, up, down)
 }

@@ -7,7 +7,7 @@ ghost use Rattle.engine.specs.Sweep.{Climbs, Risen, Drops, Reached};
 
 use crate::plan::{FLOOR, Joint, Plan};
 use crate::slot::{put_wave, wave_at};
-use crate::wave::{Rounds, sends_down, sends_up};
+use crate::wave::{Down, Rounds, TowardZero, sends_down, sends_up};
 use circuit::ROWS;
 
 // Adaptor k.
@@ -19,7 +19,7 @@ fn joint_at(plan: &Plan, k: usize) -> Joint
 }
 
 // The way to round is a type here and a flag of the plan, and whoever sweeps has chosen the type by the flag.
-pub(crate) fn sweep_up<R: Rounds>(plan: &Plan, up: &mut [i64; ROWS])
+fn sweep_up<R: Rounds>(plan: &Plan, up: &mut [i64; ROWS])
     requires { Climbs plan.now up.old × (R.rounding ≡ way plan.now.inward) }
     ensures { (c : Climbs plan.now up.old) → Risen c.swept.circuit c.swept.wave (suc floor + plan.now.adaptors) up.new }
 {
@@ -38,7 +38,7 @@ pub(crate) fn sweep_up<R: Rounds>(plan: &Plan, up: &mut [i64; ROWS])
 }
 
 // `down` holds the wave that reaches the top, in the top's slot.
-pub(crate) fn sweep_down<R: Rounds>(plan: &Plan, up: &[i64; ROWS], down: &mut [i64; ROWS])
+fn sweep_down<R: Rounds>(plan: &Plan, up: &[i64; ROWS], down: &mut [i64; ROWS])
     requires { Drops plan.now up.now down.old × (R.rounding ≡ way plan.now.inward) }
     ensures { (c : Drops plan.now up.now down.old) → Reached c.swept.circuit c.swept.wave down.old down.new }
 {
@@ -57,5 +57,30 @@ pub(crate) fn sweep_down<R: Rounds>(plan: &Plan, up: &[i64; ROWS], down: &mut [i
         );
         put_wave(down, first, b.first);
         put_wave(down, second, b.second);
+    }
+}
+
+// Up, whichever way the plan rounds. The way is chosen once for each sweep: with a loop of samples for each way, all else that a sample does would
+// be there twice, and rule 15 at the leaves a call in each.
+pub(crate) fn swept_up(plan: &Plan, up: &mut [i64; ROWS])
+    requires { Climbs plan.now up.old }
+    ensures { (c : Climbs plan.now up.old) → Risen c.swept.circuit c.swept.wave (suc floor + plan.now.adaptors) up.new }
+{
+    if plan.inward {
+        sweep_up::<TowardZero>(plan, up);
+    } else {
+        sweep_up::<Down>(plan, up);
+    }
+}
+
+// Down, likewise.
+pub(crate) fn swept_down(plan: &Plan, up: &[i64; ROWS], down: &mut [i64; ROWS])
+    requires { Drops plan.now up.now down.old }
+    ensures { (c : Drops plan.now up.now down.old) → Reached c.swept.circuit c.swept.wave down.old down.new }
+{
+    if plan.inward {
+        sweep_down::<TowardZero>(plan, up, down);
+    } else {
+        sweep_down::<Down>(plan, up, down);
     }
 }

@@ -5,10 +5,11 @@ use native.Mathlib.Decide.{ℕ_discrete}
 use native.Mathlib.Omega.{arith}
 use borrow.Author.Tests.{eq-eqb, ne_eqb}
 use mathlib.Core.List.{List}
-use lib.ListN.{length}
+use lib.ListN.{length, replicate}
 use Rattle.circuit.specs.Numbers.{Report, report, done, judge, unless, told}
-use Rattle.circuit.specs.SetUp.{circuit_rules, set_up_rules, set_up_report}
-use Rattle.circuit.specs.File.{file_length, file_of, record_of, file_length_rule, file_rules, read_rules, read_report, read_record, WriteCall, write_rules, write_report, buffer_after}
+use Rattle.circuit.specs.Record.{row_limit, version_rule}
+use Rattle.circuit.specs.SetUp.{nothing, circuit_rules, set_up_rules, set_up_report, set_up_rows}
+use Rattle.circuit.specs.File.{file_length, file_of, no_record, record_of, file_length_rule, file_rules, read_rules, read_report, read_record, WriteCall, write_rules, write_report, buffer_after}
 use Rattle.circuit.specs.declared.Refusal.{Refusal}
 use Rattle.circuit.specs.declared.Record.{Record}
 use Rattle.laws.proofs.Judging.{judge_pass, judge_fail, judge_rest, judge_stop, judge_of, zero_pass, version_passed}
@@ -16,6 +17,11 @@ use Rattle.laws.proofs.Trying.{told_above}
 use Rattle.blocks.proofs.Judged.{file_numbered}
 
 -- ---- reading
+
+-- the record of zeros is refused, for its version
+none_prepared : set_up_rows no_record ≡ replicate row_limit nothing
+unfolding set_up_rows set_up_report set_up_rules judge version_rule no_record
+none_prepared = refl
 
 module _ (s : List ℕ) where
   -- the bytes are refused

@@ -61,7 +61,7 @@ fn turn(rt: &HostRuntime, s: &[u8], knob: Knob) -> io::Result<()> {
     }
 }
 
-// One byte more than a file has is room enough to tell an input that is too long.
+// Room is fixed, since nothing is allocated: one byte more than a file has is enough to tell an input that is too long.
 fn main(rt: HostRuntime) -> io::Result<()> {
     let Some(knob) = asked(&rt) else {
         return say_usage(&rt);

@@ -1,8 +1,10 @@
 -- Rules that are tried in order, each handed on with `?`: a refusal is what judging them gives, and a rule that passes leaves the rules after it.
 use Prim.Native.Nat.{ℕ, suc, ◌<◌}
-use lib.Dec.{lit<}
+use lib.Dec.{eqb, lit<}
 use native.Mathlib.Omega.{arith}
+use borrow.Author.Tests.{ne_eqb}
 use mathlib.Core.Path.{◌≡◌, refl, sym, ap, ◌∙◌}
+use mathlib.Core.Bool.{cond}
 use mathlib.Core.List.{List, [], ◌∷◌}
 use Rattle.circuit.specs.Numbers.{Report, done, Verdict, passes, fails, ◌then◌, Rule, rule, judge, told, handed}
 use Rattle.std.specs.Prelude.{Result, Ok, Err}
@@ -36,6 +38,13 @@ told_above Voltage = lit< tt
 -- a refusal is not done
 pub told_undone : (e : Refusal) → told e ≡ done → ⊥
 told_undone e same = let above = told_above e in let none = ap (λ (r : Report). r.number) same in absurd (omega arith)
+
+-- what a definition has in place of what is refused
+pub refused_else : {A : Type 0} (e : Refusal) {n : Report} → told e ≡ n → (x other : A) → other ≡ cond (eqb n.number 0) x other
+refused_else e {n} same x other =
+    let above = told_above e in
+    let number = ap (λ (m : Report). m.number) same in
+    rw (ne_eqb n.number 0 (λ z. omega arith)) refl
 
 -- what a rule that passes shows
 pub done_passes : (n : ℕ) (v : Verdict) → done ≡ numbered (suc n) v → v ≡ passes

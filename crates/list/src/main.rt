@@ -5,7 +5,7 @@ use circuit::FILE_LENGTH;
 use std::io;
 use streams::read_full;
 
-// One byte more than a file has is room enough to tell an input that is too long.
+// Room is fixed, since nothing is allocated: one byte more than a file has is enough to tell an input that is too long.
 fn main(rt: HostRuntime) -> io::Result<()> {
     let mut bytes = [0u8; FILE_LENGTH + 1];
     let count = read_full(&mut rt.reader(), &mut bytes)?;

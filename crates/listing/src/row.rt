@@ -76,7 +76,7 @@ impl Text {
         }
     }
 
-    // The rows of a record that set-up accepts, with what it prepared for each.
+    // The rows of a record that set-up accepts, with what it prepared for each: by their numbers, which the lines tell.
     pub(crate) fn push_rows(&mut self, r: &Record, prepared: &[Prepared; ROWS])
         requires accepted { (set_up_report r.now).number ≡ 0 }
         requires rows { prepared.now ≡ set_up_rows r.now }

@@ -4,10 +4,12 @@
 ghost use Rattle.std.specs.Prelude.{◌+◌, ◌*◌, min, ◌≡◌};
 ghost use Rattle.numeral.specs.Numeral.{digit_of, are_digits, value, numeral};
 
+// Every byte is asked, whatever the ones before it are: a compiler then asks many at once, where `all` would ask them one by one.
 fn are_digits(text: &[u8]) -> bool
     ensures { result ≡ are_digits text.now }
 {
-    text.iter().all(u8::is_ascii_digit)
+    text.iter()
+        .fold(true, |digits, byte| digits & byte.is_ascii_digit())
 }
 
 // The number and one digit more, or `most` where that is above it.

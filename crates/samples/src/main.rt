@@ -21,7 +21,7 @@ fn reason(alloc: Global, error: io::Error) -> Result<String, AllocError> {
     Ok(words)
 }
 
-// One byte more than a file has is room enough to tell an input that is too long.
+// Room is fixed, since nothing is allocated: one byte more than a file has is enough to tell an input that is too long.
 fn list_file(rt: &HostRuntime, name: &str) -> io::Result<()> {
     let mut file = match File::open(rt, name) {
         Ok(file) => file,

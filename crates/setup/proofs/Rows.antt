@@ -3,22 +3,23 @@
 use Prim.Native.Nat.{ℕ, ◌-◌, ◌≤◌, ◌<◌}
 use native.Mathlib.Omega.{arith}
 use mathlib.Core.Path.{◌≡◌, refl, sym, ap, ap₂, ◌∙◌}
-use mathlib.Core.Bool.{Bool, true, false, not, and-false}
+use mathlib.Core.Bool.{Bool, true, false, cond, not, and-false}
 use mathlib.Core.List.{List}
 use borrow.Author.Tests.{ltb-false, lt-leb}
-use lib.Dec.{leb, ltb}
+use lib.Dec.{leb, ltb, eqb}
+use lib.ListN.{length, replicate, length-replicate}
 use lib.Ieee.{nan}
 use Rattle.circuit.specs.Counting.{between}
 use Rattle.circuit.specs.Numbers.{lowest}
 use Rattle.circuit.specs.Record.{row_limit, part_at}
-use Rattle.circuit.specs.SetUp.{nothing, parts, port_of, resistance_at, ratio_at, prepared_part, prepared_rows}
+use Rattle.circuit.specs.SetUp.{nothing, parts, port_of, resistance_at, ratio_at, prepared_part, prepared_rows, set_up_report, set_up_rows}
 use Rattle.circuit.specs.SetUp.{in_range, port_resistance_rule, ratio_fault, ratio_rule}
 use Rattle.circuit.specs.declared.Part.{Part}
 use Rattle.circuit.specs.declared.Part.TheVariants.{Blank, Leaf, Adaptor}
 use Rattle.circuit.specs.declared.Prepared.{Prepared}
 use Rattle.circuit.specs.declared.Record.{Record}
 use Rattle.laws.specs.Accepted.{Lower}
-use Rattle.laws.proofs.Counting.{get_or-table, table_same, lowest_same}
+use Rattle.laws.proofs.Counting.{get_or-table, length_table, table_same, lowest_same}
 use Rattle.laws.proofs.Trees.{tree_blank, tree_leaf, resistance_leaf, ratio_leaf, resistance_adaptor, ratio_adaptor}
 use Rattle.measure.specs.Ratio.{proper}
 use Rattle.setup.specs.Rows.{entry, prepared_from, Rooted, filled_row, Filled}
@@ -99,3 +100,13 @@ module _ (r : Record) (rooted : Rooted r) where
         filled
         ∙ table_same (filled_row r) (λ j. prepared_part r j (part_at r j)) row_limit
         (λ j l. ap (row (resistance_at r j)) (sym (proper_below parts _ (small j))) ∙ sym (port_row j (part_at r j) refl))
+
+-- ---- how many there are
+
+rows_long : (r : Record) → length (set_up_rows r) ≡ row_limit
+unfolding set_up_rows prepared_rows
+rows_long r = by (eqb (set_up_report r).number 0)
+  where
+    by : (b : Bool) → length (cond b (prepared_rows r) (replicate row_limit nothing)) ≡ row_limit
+    by true = length_table _ row_limit
+    by false = length-replicate row_limit nothing

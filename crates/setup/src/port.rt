@@ -58,6 +58,7 @@ pub(crate) struct Ports<'a> {
 }
 
 impl Ports<'_> {
+    // `find` is the search that the rules share, here and below: what is left is what a fault is and what it is called.
     fn resistance_rule(self) -> Result<(), Refusal>
         ensures { handed result ≡ numbered 8 (port_resistance_rule self.entry.r.now) }
     {

@@ -78,8 +78,8 @@ pub fn feed(r: &Record, carried: Carried, bytes: &[u8], out: &mut [u8]) -> Feed
     let room = room_rule(&carried, bytes, out.len());
     // The circuit is set up once: here, or for the run.
     if let Err(refusal) = own.and(room) {
-        let first = match charge::check(r, &carried.state) {
-            Ok(_) => refusal,
+        let first = match charge::check(r, &carried.state).answer {
+            Ok(()) => refusal,
             Err(circuit) => circuit,
         };
         return turned_away(first, carried);
@@ -91,7 +91,7 @@ pub fn feed(r: &Record, carried: Carried, bytes: &[u8], out: &mut [u8]) -> Feed
 pub fn finish(r: &Record, carried: Carried) -> Result<(), Refusal>
     ensures { Ends (take_of r.now carried) result }
 {
-    charge::check(r, &carried.state)?;
+    charge::check(r, &carried.state).answer?;
     own_rules(&carried)?;
     end_rule(&carried)
 }

@@ -1,3 +1,4 @@
 pub mod Trips
 pub mod Cut
 pub mod CutTake
+pub mod Zeros

@@ -1,26 +1,29 @@
 -- The round trips in full: a file read and its record written, and a record written and its file read, with what each refusal hands back
 -- and leaves.
-use Prim.Native.Nat.{ℕ}
+use Prim.Native.Nat.{ℕ, zero, suc}
 use native.Mathlib.Decide.{ℕ_discrete}
 use native.Mathlib.Omega.{arith}
 use borrow.Author.Tests.{eq-eqb, ne_eqb}
 use mathlib.Core.Path.{◌≡◌, refl, sym, ap, ◌∙◌, subst}
-use mathlib.Core.Bool.{cond}
+use mathlib.Core.Bool.{cond, true≢false}
 use mathlib.Core.List.{List, [], ◌∷◌}
 use lib.Dec.{eqb}
 use lib.ListN.{length, length-replicate}
 use Rattle.std.specs.Prelude.{Result, Ok, Err, ⊤}
 use Rattle.circuit.specs.Numbers.{Report, Rule, report, done, rule, judge, of, unless, handed}
 use Rattle.circuit.specs.SetUp.{set_up_report}
-use Rattle.circuit.specs.File.{zeros, file_length, file_length_rule, file_of, read_rules, read_report, buffer_after}
+use Rattle.circuit.specs.Record.{version_rule}
+use Rattle.circuit.specs.File.{number_of, zeros, file_length, file_length_rule, file_of, file_rules, read_rules, read_report, buffer_after}
 use Rattle.circuit.specs.Promises.{Reads, Writes}
 use Rattle.circuit.specs.declared.Refusal.{Refusal}
 use Rattle.circuit.specs.declared.Record.{Record}
 use Rattle.laws.proofs.Trying.{told_above}
-use Rattle.laws.proofs.Judging.{judge_fail, pass_done, judge_rest, judge_stop, judge_of, of_numbered, zero_pass, zero_done, read_numbered}
+use Rattle.laws.proofs.Judging.{judge_fail, pass_done, judge_rest, judge_stop, judge_of, of_numbered, zero_pass, read_numbered}
+use Rattle.laws.proofs.Counting.{unless_passes}
 use Rattle.blocks.specs.Placing.{Bytes}
+use Rattle.blocks.proofs.Judged.{judged_sound}
 use Rattle.file.specs.Held.{Held}
-use Rattle.file.proofs.Reported.{write_stop, write_on}
+use Rattle.file.proofs.Reported.{read_stop, write_stop, write_on}
 use Rattle.file.proofs.RoundTrips.{read_then_written, written_then_read}
 use Rattle.uses.specs.Promises.{RewriteCall, rewrite_rules, Rewrites, Rereads}
 
@@ -74,6 +77,19 @@ module _ {w : RewriteCall} where
 
 -- ---- writing, then reading
 
+-- bytes that reading accepts pass their own rules
+judged_first : (s : List ℕ) → (read_report s).number ≡ 0 → (judge file_rules s).number ≡ 0
+judged_first s e = by (judge file_rules s).number refl
+  where
+    by : (n : ℕ) → (judge file_rules s).number ≡ n → (judge file_rules s).number ≡ 0
+    by zero q = q
+    by (suc n) q = absurd (let same = ap (λ (m : Report). m.number) (read_stop s (λ z. omega arith)) in omega arith)
+
+-- the version of a blank page is 0
+blank_refused : (read_report (zeros file_length)).number ≡ 0 → ⊥
+unfolding number_of version_rule
+blank_refused e = true≢false (sym (unless_passes _ 0 (judged_sound (zeros file_length) (judged_first (zeros file_length) e)).version))
+
 module _ {r : Record} {page : List ℕ} (blank : page ≡ zeros file_length) {after : List ℕ} where
   reported : {a : Result ⊤ Refusal} → Writes (record { circuit = r; buffer = page }) a after → handed a ≡ set_up_report r
   reported written = written.number ∙ write_on (record { circuit = r; buffer = page }) (ap length blank ∙ length-replicate {A = ℕ} file_length 0)
@@ -84,3 +100,7 @@ module _ {r : Record} {page : List ℕ} (blank : page ≡ zeros file_length) {af
   pub rereads : Held r → Writes (record { circuit = r; buffer = page }) (Ok tt) after → {got : Result Record Refusal} → Reads after got → Rereads r got
   rereads held written {got} read =
       subst (Rereads r) (sym (written_then_read held written refl read)) (record { number = reported written; circuit = refl })
+
+-- of a record, by what it has by its type
+pub of_own : {q r : Record} {s : Result Record Refusal} → q ≡ r → Rereads q s → Rereads r s
+of_own {s = s} same = subst (λ r. Rereads r s) same

@@ -4,25 +4,31 @@
 
 ghost use Rattle.std.specs.Prelude.{◌≡◌, cond, ◌<◌, ◌^◌, eqb, length};
 ghost use Rattle.circuit.specs.Numbers.{told};
-ghost use Rattle.circuit.specs.File.{file_length, zeros};
+ghost use Rattle.circuit.specs.SetUp.{set_up_rows};
+ghost use Rattle.circuit.specs.File.{file_length, zeros, read_record};
 ghost use Rattle.circuit.specs.Run.{call};
 ghost use Rattle.circuit.specs.Take.{feeding};
+ghost use Rattle.circuit.specs.Knee.{built_kind, built_width, built_columns};
 ghost use Rattle.circuit.specs.Promises.{Runs, Feeds};
 ghost use Rattle.file.specs.Held.{Held};
 ghost use Rattle.theorems.specs.Pieces as Pieces;
 ghost use Rattle.uses.specs.Promises.{Rewrites, Rereads, can_cut, RunsBounded};
 
 use circuit::{
-    Carried, FILE_LENGTH, Feed, LEFT_LIMIT, OUTPUT_LENGTH, Progress, Record, Refusal,
-    SAMPLE_LENGTH, State, TAKE_LIMIT,
+    Built, COLUMNS, Carried, Column, CurveKind, FILE_LENGTH, Feed, Knob, LEFT_LIMIT, OUTPUT_LENGTH,
+    Prepared, Progress, ROWS, Record, Refusal, SAMPLE_LENGTH, State, TAKE_LIMIT,
 };
 
 // Reading and then writing gives the same bytes: an accepted file is written as it was read, and a refused one leaves `out` as it is.
 pub fn rewrite(bytes: &[u8], out: &mut [u8]) -> Result<(), Refusal>
     ensures { Rewrites (record { file = bytes.now; buffer = out.old }) result out.new }
 {
-    let circuit = file::read(bytes)?;
-    file::write(&circuit, out)
+    // by its arms and not by `?`, here and below: so a wrong answer for one of them is refused for what it says, and not since the names that a `?`
+    // gives a proof are gone
+    match file::read(bytes) {
+        Ok(circuit) => file::write(&circuit, out),
+        Err(unread) => Err(unread),
+    }
 }
 
 fn blank_page() -> [u8; FILE_LENGTH]
@@ -45,8 +51,38 @@ pub fn reread(r: &Record) -> Result<Record, Refusal>
 {
     let circuit = own(*r);
     let mut page = blank_page();
-    file::write(&circuit, &mut page)?;
-    file::read(&page)
+    match file::write(&circuit, &mut page) {
+        Ok(()) => file::read(&page),
+        Err(unwritten) => Err(unwritten),
+    }
+}
+
+// A refusal hands back nothing else. These three put zeros in its place, and have what the definitions hand back, whatever comes in: the record of a
+// file's bytes,
+pub fn read_or_zeros(bytes: &[u8]) -> Record
+    ensures { result ≡ read_record bytes.now }
+{
+    file::read(bytes).unwrap_or(blocks::no_record())
+}
+
+// a record's prepared rows,
+pub fn set_up_or_zeros(r: &Record) -> [Prepared; ROWS]
+    ensures { result ≡ set_up_rows r.now }
+{
+    setup::set_up(r).unwrap_or([Prepared::blank(); ROWS])
+}
+
+// and the curve that a knob asks for.
+pub fn build_or_zeros(knob: Knob) -> Built
+    ensures kind { result.kind ≡ built_kind knob }
+    ensures width { result.width ≡ built_width knob }
+    ensures columns { result.columns ≡ built_columns knob }
+{
+    knee::build(knob).unwrap_or(Built {
+        kind: CurveKind::Unset,
+        width: 0,
+        columns: [Column { x: 0, y: 0 }; COLUMNS],
+    })
 }
 
 // A refusal of samples that begin `at` after the first.

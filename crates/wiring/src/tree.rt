@@ -70,7 +70,7 @@ fn uses(r: &Record) -> [u8; ROWS]
     uses
 }
 
-// The last row is nobody's child.
+// The last row is nobody's child. `find` is the search, as above.
 #[tactic(auto, unfolding(circuit::specs::Numbers::told))]
 pub(crate) fn used_once_rule(r: &Record) -> Result<(), Refusal>
     requires { r.now.count ≤ row_limit }

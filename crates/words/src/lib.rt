@@ -1,15 +1,22 @@
 // What an answer means, in a line of words.
 #![tactic(auto)]
 
-ghost use Rattle.std.specs.Prelude.{◌≡◌};
+ghost use Rattle.std.specs.Prelude.{◌≡◌, ◌≤◌, length};
 ghost use Rattle.circuit.specs.Words.{meaning};
+ghost use Rattle.words.specs.Room.{words_room};
 
 use circuit::Refusal;
+
+// Room for any answer's words, where they are laid into memory of fixed size. The longest are those of number 18.
+pub const ROOM: usize = 129;
+
+pub type Line = [u8; ROOM];
 
 // The words, with the newline that ends them. Not `Display`: what is printed has no clause, and these words are promised.
 #[tactic(auto, unfolding(circuit::specs::Words::meaning, circuit::specs::Text::text))]
 pub fn explain(answer: Result<(), Refusal>) -> &'static str
-    ensures { result.now ≡ meaning answer }
+    ensures text { result.now ≡ meaning answer }
+    ensures room { length result.now ≤ words_room }
 {
     match answer {
         Ok(()) => "done\n",

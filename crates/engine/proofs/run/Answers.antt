@@ -22,18 +22,23 @@ away k e s p same j =
 
 pub returns-in-Err : goal.returns-in-Err
 returns-in-Err c =
-    let h = c.in-Err.ensures.charges in
-    away _ _ _ c.turned_away.ensures refl (h.number ∙ sym (run_judged _ ∙ else_first _ _ (refusing h)))
+    let h = c.check-checked.ensures.charges in
+    let is = c.in-Err.is in
+    away _ _ _ c.turned_away.ensures refl ((rw is at h.number) ∙ sym (run_judged _ ∙ else_first _ _ (refusing h is)))
 
 pub returns-in-Ok : goal.returns-in-Ok
 unfolding told lengths_rule
 returns-in-Ok c =
     let differ = judge_fail (rule 13 lengths_rule) [] _ 0 (ap (λ b. unless b 0) (ne_eqb _ _ c.if-input-output.true)) in
-    away _ Lengths _ c.turned_away-in-Ok.ensures refl (sym (run_judged _ ∙ else_next _ _ (clearing c.in-Ok.ensures.charges) ∙ differ))
+    away _ Lengths _ c.turned_away-in-Ok.ensures refl (sym (run_judged _ ∙ else_next _ _ (clearing c.check-checked.ensures.charges c.in-Ok.is) ∙ differ))
 
 pub play-requires : goal.play-requires
-play-requires c = (playable c.in-Ok.ensures.charges c.in-Ok.ensures.sized, omega (arith, c.if-input-output.false))
+play-requires c =
+    let is = c.in-Ok.is in
+    (playable c.check-checked.ensures.charges is (rw is at c.check-checked.ensures.sized), omega (arith, c.if-input-output.false))
 
 pub returns-in-Ok-2 : goal.returns-in-Ok-2
 returns-in-Ok-2 c =
-    runs (playable c.in-Ok.ensures.charges c.in-Ok.ensures.sized) c.args.input.now c.args.output.now c.if-input-output.false c.play.ensures
+    let is = c.in-Ok.is in
+    runs (playable c.check-checked.ensures.charges is (rw is at c.check-checked.ensures.sized)) c.args.input.now c.args.output.now c.if-input-output.false
+    c.play.ensures

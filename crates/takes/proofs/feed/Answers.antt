@@ -8,7 +8,7 @@ use Rattle.takes.proofs.Bytes.{left_sized}
 use Rattle.takes.proofs.Deciding.{stopped, passed_on, both_handed, feed_decided, zero_ready}
 use Rattle.takes.proofs.Feeding.{feeds_refused, fed_kept}
 use Rattle.takes.proofs.feed.Goals as goal
-use Rattle.takes.proofs.feed.Goals.{in-Ok, in-Err-check}
+use Rattle.takes.proofs.feed.Goals.{in-Ok, in-Err-answer}
 
 pub returns-in-Err : goal.returns-in-Err
 returns-in-Err c =
@@ -16,8 +16,8 @@ returns-in-Err c =
     let own = ap handed c.in-Err.ensures ∙ both_handed _ _ ∙ ap₂ (λ m n. m or_else n) c.own_rules-own.ensures c.room_rule-room.ensures in
     let first : told c.match-check.first ≡ judge feed_rules (feeding a.r.now a.carried a.bytes.now a.out.now) =
     elim c.match-check.branch [
-      | in-Ok w ↦ ap told w.first-is ∙ own ∙ passed_on _ _ w.in-Ok.ensures.charges.number
-      | in-Err-check w ↦ ap told w.first-is ∙ stopped _ _ _ w.in-Err-check.ensures.charges.number
+      | in-Ok w ↦ ap told w.first-is ∙ own ∙ passed_on _ _ (rw w.in-Ok.is at c.check.ensures.charges.number)
+      | in-Err-answer w ↦ ap told w.first-is ∙ stopped _ _ _ (rw w.in-Err-answer.is at c.check.ensures.charges.number)
     ]
     ∙ feed_decided a.r.now a.carried a.bytes.now a.out.now (left_sized a.carried _ c.well_formed.1.0) in
     feeds_refused _ _ _ _ c.turned_away.ensures (fed_kept _ _ first)

@@ -25,9 +25,10 @@ returns-then-not-may_be_over c =
 pub returns-then-not-may_be_over-2 : goal.returns-then-not-may_be_over-2
 returns-then-not-may_be_over-2 c =
     let ds = c.args.down.now in
-    let calm = c.may_be_over-else-n-gt2.ensures c.if-not-may_be_over-2.true in
+    let calm = c.may_be_over-else-n-gt-FEW.ensures c.if-not-may_be_over-2.true in
+    let few = c.if-n-gt-FEW.false in
     let input = (c.gathered.ensures (rw (to_z-of_z w64 c.gathered.result (record { sfits = c.gathered.type_inv })) at calm.0)).1 in
-    sym (none_over c.args.n ds calm.1 (rw (to_z-of_z w64 (stored_at ds floor) (search rules)) at input))
+    sym (none_over c.args.n ds (λ s l. calm.1 s (omega arith)) (rw (to_z-of_z w64 (stored_at ds floor) (search rules)) at input))
 
 pub returns : goal.returns
 returns c =

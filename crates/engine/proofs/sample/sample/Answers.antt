@@ -45,42 +45,42 @@ known {r = r} {ws = ws} fixed loaded room = record { circuit = r; stored = ws; f
 
 pub returns-then-not-in_source_limit : goal.returns-then-not-in_source_limit
 unfolding Works
-returns-then-not-in_source_limit g c =
+returns-then-not-in_source_limit c =
     let loud = read_within source_limit c.ranges.x c.in_source_limit.ensures c.if-not-in_source_limit.true in
-    record { works = λ r ws f l. (Sampling.refuses_loud r ws c.args.x loud, l); room = c.requires.0.room }
+    record { works = λ r ws f l. (Sampling.refuses_loud r ws c.args.x loud, l); room = c.requires.room }
 
 pub turned-requires : goal.turned-requires
-turned-requires g c =
-    let fixed = c.requires.0.fixed in
+turned-requires c =
+    let fixed = c.requires.fixed in
     let reads : FitsSigned w64 (stored_at c.args.plan.now.turns floor) = search rules in
     rw (to_z-of_z w64 _ reads, wide_same c.ranges.x)
     (Sampling.slot_turn fixed floor fixed.seated.slotted.source, (let x = c.ranges.x in omega zfits))
 
-pub sweep_up-requires : goal.sweep_up-requires
-sweep_up-requires g c =
+pub swept_up-requires : goal.swept_up-requires
+swept_up-requires c =
     let quiet = read_within source_limit c.ranges.x c.in_source_limit.ensures c.if-not-in_source_limit.false in
     let turns : FitsSigned w64 (stored_at c.args.plan.now.turns floor) = search rules in
-    rw (enters c.turned.type_inv turns c.ranges.x c.turned.ensures) (Sampling.climbs c.requires.0 c.args.x quiet, c.requires.1)
+    rw (enters c.turned.type_inv turns c.ranges.x c.turned.ensures) (Sampling.climbs c.requires c.args.x quiet)
 
 pub returns-then-not-in_limit : goal.returns-then-not-in_limit
 unfolding Works
-returns-then-not-in_limit g c =
+returns-then-not-in_limit c =
     let quiet = read_within source_limit c.ranges.x c.in_source_limit.ensures c.if-not-in_source_limit.false in
-    let reads : FitsSigned w64 (stored_at c.sweep_up.new.up (floor + c.args.plan.now.adaptors)) = search rules in
+    let reads : FitsSigned w64 (stored_at c.swept_up.new.up (floor + c.args.plan.now.adaptors)) = search rules in
     let over = read_within wave_limit reads c.in_limit.ensures c.if-not-in_limit.true in
     let turns : FitsSigned w64 (stored_at c.args.plan.now.turns floor) = search rules in
     let e = enters c.turned.type_inv turns c.ranges.x c.turned.ensures in
     record {
       works = λ r ws f l.
-          let k = known f l c.requires.0.room in
-          let h = risen k quiet e c.sweep_up.ensures in
+          let k = known f l c.requires.room in
+          let h = risen k quiet e c.swept_up.ensures in
           (Sampling.refuses_top k _ h over, Sampling.still k _ h);
-      room = c.requires.0.room;
+      room = c.requires.room;
     }
 
 -- ---- the diode
 
-module _ (g : _) (c : After-reflect-answer g) where
+module _ (c : After-reflect-answer) where
   abbrev plan : Plan
   plan = c.args.plan.now
 
@@ -89,7 +89,7 @@ module _ (g : _) (c : After-reflect-answer g) where
   Laid = LaidOut plan c.args.up.now c.args.down.now
 
   abbrev above : List ℤ
-  above = c.sweep_up.new.up
+  above = c.swept_up.new.up
 
   -- the top's slot, the wave that goes up from it, and the answer
   abbrev top : ℕ
@@ -105,7 +105,7 @@ module _ (g : _) (c : After-reflect-answer g) where
   raised k =
       let quiet = read_within source_limit c.ranges.x c.in_source_limit.ensures c.if-not-in_source_limit.false in
       let turns : FitsSigned w64 (stored_at plan.turns floor) = search rules in
-      risen k quiet (enters c.turned.type_inv turns c.ranges.x c.turned.ensures) c.sweep_up.ensures
+      risen k quiet (enters c.turned.type_inv turns c.ranges.x c.turned.ensures) c.swept_up.ensures
 
   calm : within wave_limit wave ≡ true
   calm =
@@ -119,7 +119,7 @@ module _ (g : _) (c : After-reflect-answer g) where
 
   -- it is no larger than the wave
   answer_reads : to_z w64 (of_z w64 answer) ≡ answer
-  answer_reads = let k = c.requires.0 in limit_reads (Sampling.answer_range k _ (raised k) calm (answered k).wave)
+  answer_reads = let k = c.requires in limit_reads (Sampling.answer_range k _ (raised k) calm (answered k).wave)
 
   -- ---- down
 
@@ -132,19 +132,19 @@ module _ (g : _) (c : After-reflect-answer g) where
       → (k : Laid) → Landed plan k.circuit k.stored c.args.x above below
   landed down k = Sampling.landed k _ (raised k) calm (answered k).wave ((rw answer_reads at down) (drops k))
 
-pub sweep_down-requires : goal.sweep_down-requires
-sweep_down-requires g c = let at = (goal.at.sweep_down-requires g c).After-reflect-answer in rw (answer_reads g at) (drops g at c.requires.0, c.requires.1)
+pub swept_down-requires : goal.swept_down-requires
+swept_down-requires c = let at = (goal.at.swept_down-requires c).After-reflect-answer in rw (answer_reads at) (drops at c.requires)
 
 pub settle-requires : goal.settle-requires
-settle-requires g c = Finishing.settles (landed g (goal.at.settle-requires g c).After-reflect-answer c.sweep_down.ensures c.requires.0)
+settle-requires c = Finishing.settles (landed (goal.at.settle-requires c).After-reflect-answer c.swept_down.ensures c.requires)
 
 pub returns : goal.returns
-returns g c =
-    let at = (goal.at.returns g c).After-reflect-answer in
+returns c =
+    let at = (goal.at.returns c).After-reflect-answer in
     record {
       works = λ r ws f l.
-          let k = known f l c.requires.0.room in
-          let risen = Sampling.top_wave k _ (raised g at k) in
-          Finishing.works (landed g at c.sweep_down.ensures k) ((answered g at k).segment ∙ ap (segment r) risen) c.settle.result _ c.settle.ensures;
-      room = (landed g at c.sweep_down.ensures c.requires.0).modest;
+          let k = known f l c.requires.room in
+          let risen = Sampling.top_wave k _ (raised at k) in
+          Finishing.works (landed at c.swept_down.ensures k) ((answered at k).segment ∙ ap (segment r) risen) c.settle.result _ c.settle.ensures;
+      room = (landed at c.swept_down.ensures c.requires).modest;
     }

@@ -3,15 +3,15 @@ use Rattle.std.proofs.Common.{◌≡◌, ◌<◌, length, get_or, pos, w32, to_z
 use mir.ValLaws.{to_z-of_z}
 use Rattle.circuit.specs.Run.{fresh_waves}
 use Rattle.engine.proofs.Looping.{going_start, going_laid, going_refused, going_on, going_done}
-use Rattle.engine.proofs.play.rounded_samples.Goals as goal
-use Rattle.engine.proofs.play.rounded_samples.Goals.{After-sample}
+use Rattle.engine.proofs.play.samples.Goals as goal
+use Rattle.engine.proofs.play.samples.Goals.{After-sample}
 
 pub loop-i-init : goal.loop-i-init
 unfolding fresh_waves
 loop-i-init g c = going_start g.met.W.Written.shows c.requires.0.room
 
 pub sample-requires-in-loop-i : goal.sample-requires-in-loop-i
-sample-requires-in-loop-i g c = (going_laid c.loop-i.invariant c.requires.0, c.requires.2)
+sample-requires-in-loop-i g c = going_laid c.loop-i.invariant c.requires.0
 
 -- where a sample is read
 module _ (g : _) (c : After-sample g) where
