@@ -38,15 +38,28 @@ pub fn check(r: &Record, state: &State) -> Checked
     ensures charges { Charges (record { circuit = r.now; waves = state.now.waves }) result }
     ensures sized { OnOk result.answer (Sized r.now) }
 {
+    let blank = Prepared {
+        resistance: 0.0,
+        ratio: 0,
+    };
     match setup::set_up(r) {
-        Ok(rows) => Checked {
-            answer: stored_waves(r, state),
-            rows,
-        },
         Err(refusal) => Checked {
             answer: Err(refusal),
-            rows: [Prepared::blank(); ROWS],
+            rows: [blank; ROWS],
         },
+        Ok(rows) => {
+            let checked = Checked {
+                answer: Ok(()),
+                rows,
+            };
+            match stored_waves(r, state) {
+                Ok(()) => checked,
+                Err(refusal) => Checked {
+                    answer: Err(refusal),
+                    ..checked
+                },
+            }
+        }
     }
 }
 

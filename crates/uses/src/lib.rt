@@ -69,7 +69,11 @@ pub fn read_or_zeros(bytes: &[u8]) -> Record
 pub fn set_up_or_zeros(r: &Record) -> [Prepared; ROWS]
     ensures { result ≡ set_up_rows r.now }
 {
-    setup::set_up(r).unwrap_or([Prepared::blank(); ROWS])
+    let blank = Prepared {
+        resistance: 0.0,
+        ratio: 0,
+    };
+    setup::set_up(r).unwrap_or([blank; ROWS])
 }
 
 // and the curve that a knob asks for.

@@ -1,7 +1,7 @@
 // What an answer means, in a line of words.
 #![tactic(auto)]
 
-ghost use Rattle.std.specs.Prelude.{◌≡◌, ◌≤◌, length};
+ghost use Rattle.std.specs.Prelude.{◌≡◌, ◌≤◌, ◌++◌, length, drop};
 ghost use Rattle.circuit.specs.Words.{meaning};
 ghost use Rattle.words.specs.Room.{words_room};
 
@@ -48,4 +48,15 @@ pub fn explain(answer: Result<(), Refusal>) -> &'static str
         Err(Refusal::Voltage) =>
             "the knee or the thermal voltage is below 1, the thermal voltage is no multiple of 32, or the last column would be above 67108864\n",
     }
+}
+
+// The words at the start of a line, and how many bytes they have. The bytes after them stay as they were.
+pub fn put(answer: Result<(), Refusal>, line: &mut Line) -> usize
+    ensures size { result ≡ length (meaning answer) }
+    ensures text { line.new ≡ meaning answer ++ drop (length (meaning answer)) line.old }
+{
+    let words = explain(answer).as_bytes();
+    let size = words.len();
+    line[..size].copy_from_slice(words);
+    size
 }

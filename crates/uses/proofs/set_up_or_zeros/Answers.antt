@@ -1,9 +1,9 @@
--- What set-up prepares, or zeros.
-use Rattle.std.proofs.Common.{replicate, ap, ◌∙◌}
-use Rattle.std.specs.Result.{result_unwrap_or}
-use Rattle.circuit.specs.Record.{row_limit}
+-- What set-up prepares, or zeros; 0.0 is the whole number 0.
+use Rattle.std.proofs.Common.{◌∙◌}
+use Rattle.std.specs.Float.Ieee.{of_int, of_bits}
 use Rattle.uses.proofs.Zeros.{rows_or}
 use Rattle.uses.proofs.set_up_or_zeros.Goals as goal
 
 pub returns : goal.returns
-returns c = c.unwrap_or.ensures ∙ ap (λ q. result_unwrap_or c.set_up.result (replicate row_limit q)) c.blank.ensures ∙ rows_or _ c.set_up.ensures
+unfolding of_int of_bits
+returns c = c.unwrap_or.ensures ∙ rows_or _ c.set_up.ensures
